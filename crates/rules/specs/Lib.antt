@@ -1,0 +1,15 @@
+pub mod Fields
+pub mod Values
+pub mod Recipe
+pub mod Table
+pub mod Places
+pub mod State
+pub mod Log
+pub mod Scheduler
+pub mod Steps
+pub mod Run
+pub mod Answers
+pub mod Trial
+pub mod Moments
+pub mod Fairness
+pub mod Demand
