@@ -1,2 +1,4 @@
 pub mod Trial
 pub mod Answers
+pub mod Scheduling
+pub mod Fit

@@ -208,7 +208,7 @@ module _ (R : Rules) where
   -- "by any list of picks: from a stuck state each pick is turned and none becomes active"
   abbrev pub AllTurned : Config R → List ℕ → Type 0
   AllTurned c [] = Unit {0}
-  AllTurned c (i ∷ is) = Turned c (pull i (c .queue)) (tryFirst c (pull i (c .queue))) × AllTurned (afterwards c (tryFirst c (pull i (c .queue)))) is
+  AllTurned c (i ∷ picks) = Turned c (pull i (c .queue)) (tryFirst c (pull i (c .queue))) × AllTurned (afterwards c (tryFirst c (pull i (c .queue)))) picks
 
   -- ---- demand 3: what holds of the calls cs, each on the state that the last one left, the first on c
 
