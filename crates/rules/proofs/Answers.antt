@@ -182,7 +182,7 @@ block-refuses : (n : ℕ) → ofBlock n ≡ true → refuses n ≡ true
 block-refuses n h = rw h (or-true (ofTable n))
 
 -- what refuses, refuses by a number of the list
-opened-number : (t b : List ℕ) (n i : ℕ) → openOn t b ≡ R.refuses n i → refuses n ≡ true
+pub opened-number : (t b : List ℕ) (n i : ℕ) → openOn t b ≡ R.refuses n i → refuses n ≡ true
 unfolding openOn
 opened-number t b n i e = go (check t) (checkBlock (isPlace (recipeOf t)) b) (check-number t) (block-number (isPlace (recipeOf t)) b) e
   where

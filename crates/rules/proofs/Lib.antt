@@ -1,4 +1,13 @@
-pub mod Trial
+pub mod Verdicts
 pub mod Answers
+pub mod Trial
 pub mod Scheduling
+pub mod Lists
+pub mod Numbers
+pub mod Grammar
+pub mod Places
+pub mod Ranges
 pub mod Fit
+pub mod Steps
+pub mod Blocks
+pub mod Demand

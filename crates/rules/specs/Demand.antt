@@ -77,6 +77,25 @@ DemandOf (opens r c) t b gs = AllRun r c t b gs
 abbrev pub Demand : (table block : List ℕ) → List Given → Type 0
 Demand t b gs = DemandOf (openOn t b) t b gs
 
+-- The tie to a program: a call as it was made, with what it was given besides table and block and what it returned and left, and what `run` promises
+-- of it: an equation for answer, block and log.
+pub record Made : Type 0 where
+  pub given : Given
+  pub result : Outcome
+
+pub record Promised (t b : List ℕ) (m : Made) : Type 0 where
+  pub kept : m .result ≡ runOn t b (m .given .budget) (m .given .buffer)
+
+-- calls made one after the other, each promised, each on the block that the last one left
+abbrev pub Chained : (table block : List ℕ) → List Made → Type 0
+Chained t b [] = Unit {0}
+Chained t b (m ∷ ms) = Promised t b m × Chained t (m .result .block) ms
+
+-- what then holds of them: their results are those of which demand 3 speaks
+pub record Meets (t b : List ℕ) (ms : List Made) : Type 0 where
+  pub demand : Demand t b (map (λ m. m .given) ms)
+  pub results : map (λ m. m .result) ms ≡ outcomes t b (map (λ m. m .given) ms)
+
 -- "Where a call ends in 1 or 5 and the next is given its state and the same table, the two together do what one call does whose budget is the steps of
 -- the first plus the budget of the second and whose log buffer is long enough not to fill: same last state, same ending, steps added, logs joined.
 -- This holds where the second log does not fill ..": the first call o, the second p, the one call q.

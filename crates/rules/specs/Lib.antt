@@ -2,6 +2,7 @@ pub mod Fields
 pub mod Values
 pub mod Recipe
 pub mod Table
+pub mod Grammar
 pub mod Places
 pub mod State
 pub mod Log
@@ -13,3 +14,4 @@ pub mod Trial
 pub mod Moments
 pub mod Fairness
 pub mod Demand
+pub mod Rest

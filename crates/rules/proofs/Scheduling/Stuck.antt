@@ -15,6 +15,7 @@ use Rattle.rules.specs.Fairness.{Every, Stuck, second, pull, afterwards,
 use Rattle.rules.proofs.Scheduling.Lawful.{waits-when}
 use Rattle.rules.proofs.Scheduling.Induction.{idleC, trace-ind}
 use Rattle.rules.proofs.Scheduling.Bound.{not-nil, every-mid, count-append, cause, jam-stuck, stuck-jam}
+use Rattle.rules.proofs.Lists.{every-append, every-map}
 
 module _ (R : Rules) where
   count-second : (n : ℕ) (t : R .Task) (q : List (R .Task)) → count R n (second R t q) ≡ count R n (t ∷ q)
@@ -35,14 +36,6 @@ module _ (R : Rules) where
   every-pull P zero (t ∷ q) h = h
   every-pull P (suc i) (t ∷ q) h = every-second P t (pull R i q) (h .0) (every-pull P i q (h .1))
 
-  every-append : (P : R .Task → Type 0) (q q′ : List (R .Task)) → Every P q → Every P q′ → Every P (q ++ q′)
-  every-append P [] q′ h g = g
-  every-append P (t ∷ q) q′ h g = (h .0, every-append P q q′ (h .1) g)
-
-  every-map : {A : Type 0} (P Q : A → Type 0) (q : List A) → ((t : A) → P t → Q t) → Every P q → Every Q q
-  every-map P Q [] f h = tt
-  every-map P Q (t ∷ q) f h = (f t (h .0), every-map P Q q f (h .1))
-
   pull-not-nil : (i : ℕ) (q : List (R .Task)) → ¬ (q ≡ []) → ¬ (pull R i q ≡ [])
   pull-not-nil i [] h e = h refl
   pull-not-nil zero (t ∷ q) h e = h e
@@ -55,7 +48,7 @@ module _ (R : Rules) where
   -- one turn leaves a stuck state stuck
   turn-stuck : (c : Config R) (t : R .Task) (q : List (R .Task)) → Stuck R c → ((n : ℕ) → count R n (t ∷ q) ≡ count R n (c .queue)) → Every (λ u. canGo R c u ≡ false) (t ∷ q)
       → Stuck R (record { store = c .store; active = none; queue = q ++ (t ∷ []) })
-  turn-stuck c t q s k h = record { idle = refl; some-queued = not-nil R q t []; none-ready = every-map (λ u. canGo R c u ≡ false) (λ u. canGo R (idleC R (c .store) (q ++ (t ∷ []))) u ≡ false) (q ++ (t ∷ [])) (λ u e. subst (λ f. isReady (R .wait (c .store) f u) ≡ false) (sym same) e) (every-append (λ u. canGo R c u ≡ false) q (t ∷ []) (h .1) (h .0, tt)) }
+  turn-stuck c t q s k h = record { idle = refl; some-queued = not-nil R q t []; none-ready = every-map (λ u. canGo R c u ≡ false) (λ u. canGo R (idleC R (c .store) (q ++ (t ∷ []))) u ≡ false) (λ u e. subst (λ f. isReady (R .wait (c .store) f u) ≡ false) (sym same) e) (q ++ (t ∷ [])) (every-append (λ u. canGo R c u ≡ false) q (t ∷ []) (h .1) (h .0, tt)) }
     where
       same : isLive R (q ++ (t ∷ [])) ≡ isLive R (c .queue)
       same = fun-ext (λ n. let e : count R n (q ++ (t ∷ [])) ≡ count R n (c .queue) = omega (arith, count-append R n q (t ∷ []), k n) in ap (λ z. ltb 0 z) e)

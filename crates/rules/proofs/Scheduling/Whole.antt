@@ -68,7 +68,7 @@ module _ (R : Rules) where
   test-room (suc b) (suc r) r′ (goes (some x) c) e h n = absurd (let z : _≡_ {A = ℕ} 0 1 = cc in omega arith)
 
   -- by what the test says: a call ends at once, or makes a step
-  by-test : (P : ℕ → Config R → Run R → Type 0)
+  pub by-test : (P : ℕ → Config R → Run R → Type 0)
       → ((b r : ℕ) (c : Config R) (e : Ending) → test R b r (next R c) ≡ stops e → P b c (end e c))
       → ((b r : ℕ) (c : Config R) (x : Option (R .Event)) (c′ : Config R) → next R c ≡ goes x c′ → size R x ≤ r → P b c′ (run R b (r - size R x) c′) → P (suc b) c (step c x (run R b (r - size R x) c′)))
       → (b r : ℕ) (c : Config R) → P b c (run R b r c)

