@@ -11,3 +11,4 @@ pub mod Fit
 pub mod Steps
 pub mod Blocks
 pub mod Demand
+pub mod Witness

@@ -14,4 +14,5 @@ pub mod Trial
 pub mod Moments
 pub mod Fairness
 pub mod Demand
+pub mod Witness
 pub mod Rest
