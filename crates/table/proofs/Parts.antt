@@ -1,0 +1,18 @@
+-- The parts that a record makes are what slices of its part give.
+-- Assumes nothing.
+use Prim.Native.Nat.{ℕ, _+_, _-_, _*_}
+use mathlib.Core.Path.{_≡_, ap, _∙_}
+use mathlib.Core.List.{List}
+use native.Mathlib.Omega.{arith}
+use lib.ListN.{length, take, drop, length-drop}
+use lib.Seq.{take-all}
+use Rattle.rules.specs.Table.{spanOf, inner, after}
+
+module _ (p : List ℕ) (end : ℕ) (h : end ≡ 8 + 8 * spanOf p) where
+  pub inner-slice : take (end - 8) (drop 8 p) ≡ inner p
+  unfolding inner
+  inner-slice = let e : end - 8 ≡ 8 * spanOf p = omega arith in rw e
+
+  pub after-slice : take (length p - end) (drop end p) ≡ after p
+  unfolding after
+  after-slice = take-all (length p - end) (drop end p) (omega (arith, length-drop end p)) ∙ ap (λ (n : ℕ). drop n p) h

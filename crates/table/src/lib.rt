@@ -1,0 +1,2 @@
+// Recipe tables: the records of a table part, the check of a whole table, and where each statement leads.
+pub mod record;
