@@ -1,5 +1,6 @@
 use borrow.Author.Needs.{needs}
-use native.Mathlib.Omega.{arith}
+use Prim.Native.Nat.{ℕ, _+_, _*_}
+use mathlib.Core.Path.{ap}
 use Rattle.table.proofs.Parts.{after-slice}
 use Rattle.table.proofs.record.beyond.Statement.{statement}
 use Rattle.table.proofs.record.beyond.Tie as tie
@@ -33,7 +34,7 @@ part-result-end c = search needs
 
 -- src/record.rt:46:1
 returns : tie.Need-returns
-returns c = after-slice _ _ (omega (arith, c .before .span-of .ensures .0))
+returns c = after-slice _ _ (ap (λ (n : ℕ). 8 + 8 * n) (c .before .span-of .ensures .0))
 
 pub beyond-spec : {M : Type 1} → statement M
 beyond-spec =

@@ -1,5 +1,6 @@
 use borrow.Author.Needs.{needs}
-use native.Mathlib.Omega.{arith}
+use Prim.Native.Nat.{ℕ, _+_, _*_}
+use mathlib.Core.Path.{ap}
 use Rattle.table.proofs.Parts.{inner-slice}
 use Rattle.table.proofs.record.enclosed.Statement.{statement}
 use Rattle.table.proofs.record.enclosed.Tie as tie
@@ -33,7 +34,7 @@ part-result-end c = search needs
 
 -- src/record.rt:37:1
 returns : tie.Need-returns
-returns c = inner-slice _ _ (omega (arith, c .before .span-of .ensures .0))
+returns c = inner-slice _ _ (ap (λ (n : ℕ). 8 + 8 * n) (c .before .span-of .ensures .0))
 
 pub enclosed-spec : {M : Type 1} → statement M
 enclosed-spec =
