@@ -6,6 +6,7 @@ pub mod Lists
 pub mod Numbers
 pub mod Grammar
 pub mod Places
+pub mod Standing
 pub mod Ranges
 pub mod Fit
 pub mod Steps

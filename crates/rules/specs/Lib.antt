@@ -4,6 +4,7 @@ pub mod Recipe
 pub mod Table
 pub mod Grammar
 pub mod Places
+pub mod Standing
 pub mod State
 pub mod Log
 pub mod Scheduler

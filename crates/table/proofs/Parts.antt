@@ -8,6 +8,9 @@ use lib.ListN.{length, take, drop, length-drop}
 use lib.Seq.{take-all}
 use Rattle.rules.specs.Table.{spanOf, inner, after}
 
+pub rest-slice : (p : List ℕ) (off : ℕ) → take (length p - off) (drop off p) ≡ drop off p
+rest-slice p off = take-all (length p - off) (drop off p) (omega (arith, length-drop off p))
+
 module _ (p : List ℕ) (end : ℕ) (h : end ≡ 8 + 8 * spanOf p) where
   pub inner-slice : take (end - 8) (drop 8 p) ≡ inner p
   unfolding inner
@@ -15,4 +18,4 @@ module _ (p : List ℕ) (end : ℕ) (h : end ≡ 8 + 8 * spanOf p) where
 
   pub after-slice : take (length p - end) (drop end p) ≡ after p
   unfolding after
-  after-slice = take-all (length p - end) (drop end p) (omega (arith, length-drop end p)) ∙ ap (λ (n : ℕ). drop n p) h
+  after-slice = rest-slice p end ∙ ap (λ (n : ℕ). drop n p) h

@@ -1,7 +1,7 @@
 // The record at the start of a table part, and the parts that it makes.
 ghost use mathlib.Core.Path.{_≡_};
 ghost use Prim.Native.Nat.{_+_, _*_, _≤_, _<_};
-ghost use lib.ListN.{length};
+ghost use lib.ListN.{length, drop};
 ghost use Rattle.rules.specs.Fields.{word};
 ghost use Rattle.rules.specs.Table.{spanOf, inner, after};
 
@@ -28,7 +28,7 @@ pub fn span_of(part: &[u8]) -> usize
 // The 32 bits of the first record's value.
 pub fn word_of(part: &[u8]) -> u32
     requires { ⌜ 8 ≤ length (now part) ⌝ }
-    ensures { λ r. ⌜ r ≡ word (now (part .entry)) 4 ⌝ }
+    ensures { λ r. ⌜ (r ≡ word (now (part .entry)) 4) × (r < 4294967296) ⌝ }
 {
     wide32(part[4]) + 256 * wide32(part[5]) + 65536 * wide32(part[6]) + 16777216 * wide32(part[7])
 }
@@ -49,4 +49,12 @@ pub fn beyond(part: &[u8]) -> &[u8]
 {
     let end = 8 + 8 * span_of(part);
     &part[end..]
+}
+
+// A part without its first off bytes.
+pub fn from(part: &[u8], off: usize) -> &[u8]
+    requires { ⌜ off ≤ length (now part) ⌝ }
+    ensures { λ r. ⌜ now r ≡ drop off (now (part .entry)) ⌝ }
+{
+    &part[off..]
 }

@@ -184,7 +184,7 @@ enclosed-at : (d i : ℕ) (p : List ℕ) {k : ℕ} → kindOf p ≡ k → operan
 enclosed-at d i p h = ap (λ (x : ℕ). enclosed (checkE d) (λ j q. fine) (kindRow x .encloses) i p) h
 
 -- what passes at so many levels has a right first record
-right-of : (d i : ℕ) (ends : Ends) (p : List ℕ) → checkE d i ends p ≡ fine → Right expression ends p
+pub right-of : (d i : ℕ) (ends : Ends) (p : List ℕ) → checkE d i ends p ≡ fine → Right expression ends p
 right-of zero i ends p e = absurd (expression-deep i ends p e)
 right-of (suc d) i ends p e = expression-fine d i ends p e .0
 

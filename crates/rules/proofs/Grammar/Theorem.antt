@@ -31,12 +31,12 @@ encode-passes r w =
     rw (le-leb 1 (length (encode r)) (omega (arith, w .some)), eq-eqb (length (encode r) % 8) 0 (omega arith), le-leb (length (encode r)) 32768 (omega (arith, w .few))) refl in
     rw (fits, procedures-pass r (length r) 0 (w .bodies), records-encode r, count-procedures r, spawns-pass r (length r) 0 (w .bodies)) refl
 
-record Length (l : ℕ) : Type 0 where
-  some : 1 ≤ l
-  aligned : l % 8 ≡ 0
-  few : l ≤ 32768
+pub record Length (l : ℕ) : Type 0 where
+  pub some : 1 ≤ l
+  pub aligned : l % 8 ≡ 0
+  pub few : l ≤ 32768
 
-length-fits : (l : ℕ) → lengthFits l ≡ true → Length l
+pub length-fits : (l : ℕ) → lengthFits l ≡ true → Length l
 length-fits l h =
     let a = and-true (leb 1 l && eqb (l % 8) 0) (leb l 32768) h in
     let b = and-true (leb 1 l) (eqb (l % 8) 0) (a .0) in

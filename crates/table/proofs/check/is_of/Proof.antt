@@ -1,0 +1,44 @@
+use mathlib.Core.Path.{_∙_}
+use borrow.Author.Needs.{needs}
+use Rattle.table.proofs.check.is_of.Statement.{statement}
+use Rattle.table.proofs.check.is_of.Tie as tie
+use Rattle.table.proofs.check.is_of.Reads as reads
+use Rattle.table.proofs.check.is_of.Lts as lts
+use Rattle.table.proofs.check.between.Reads as between-reads
+
+enum-told : tie.Need-enum-told
+enum-told c = search needs
+
+enum-told-2 : tie.Need-enum-told-2
+enum-told-2 c = search needs
+
+between-requires : tie.Need-between-requires
+between-requires c κs = search needs
+
+enum-told-3 : tie.Need-enum-told-3
+enum-told-3 c = search needs
+
+between-requires-2 : tie.Need-between-requires-2
+between-requires-2 c κs = search needs
+
+returns : tie.Need-returns
+returns c = rw (c .enum-told .given .1)
+
+returns-2 : tie.Need-returns-2
+returns-2 c = rw (c .before .enum-told2 .given .1) (c .between .ensures)
+
+returns-3 : tie.Need-returns-3
+returns-3 c = rw (c .before .enum-told3 .given .1) (c .between2 .ensures)
+
+pub is-of-spec : {M : Type 1} → statement M
+is-of-spec =
+    tie.close
+    (tie.spec
+    enum-told
+    enum-told-2
+    between-requires
+    enum-told-3
+    between-requires-2
+    returns
+    returns-2
+    returns-3)

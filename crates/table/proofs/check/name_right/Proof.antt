@@ -1,0 +1,49 @@
+use denote.Ref.{now}
+use Rattle.rules.specs.Table.{nameOf}
+use mathlib.Core.Path.{_≡_, refl, sym, ap, ap₂, _∙_}
+use mathlib.Core.Bool.{_&&_}
+use lib.Dec.{leb}
+use Prim.Native.Nat.{ℕ}
+use Rattle.table.proofs.Columns.{name-right}
+use borrow.Author.Needs.{needs}
+use Rattle.table.proofs.check.name_right.Statement.{statement}
+use Rattle.table.proofs.check.name_right.Tie as tie
+use Rattle.table.proofs.check.name_right.Reads as reads
+use Rattle.table.proofs.check.name_right.Lts as lts
+use Rattle.table.proofs.check.between.Reads as between-reads
+use Rattle.table.proofs.check.name_least.Reads as name-least-reads
+use Rattle.table.proofs.check.name_most.Reads as name-most-reads
+use Rattle.table.proofs.record.wide.Reads as wide-reads
+
+shared-slice-read-wide : tie.Need-shared-slice-read-wide
+shared-slice-read-wide c = search needs
+
+wide-requires : tie.Need-wide-requires
+wide-requires c κs = search needs
+
+shared-slice-read-between : tie.Need-shared-slice-read-between
+shared-slice-read-between c = search needs
+
+name-least-requires : tie.Need-name-least-requires
+name-least-requires c κs = search needs
+
+name-most-requires : tie.Need-name-most-requires
+name-most-requires c κs = search needs
+
+between-requires : tie.Need-between-requires
+between-requires c κs = search needs
+
+returns : tie.Need-returns
+returns c = let p = now (c .before .before .before .before .before .before .before .args .part) in c .between .ensures ∙ ap₂ (λ (a b : ℕ). leb a (nameOf p) && leb (nameOf p) b) (c .before .before .name-least .ensures) (c .before .name-most .ensures) ∙ sym (name-right p _ (c .before .before .before .before .wide .ensures .0))
+
+pub name-right-spec : {M : Type 1} → statement M
+name-right-spec =
+    tie.close
+    (tie.spec
+    shared-slice-read-wide
+    wide-requires
+    shared-slice-read-between
+    name-least-requires
+    name-most-requires
+    between-requires
+    returns)
