@@ -222,7 +222,7 @@ module _ (r : Recipe) (w : Within r) where
 mutual
   unfolding pointsS pointsB sizeS sizeB
 
-  length-pointsS : (s : Stmt) (i k : ℕ) → length (pointsS s i k) ≡ sizeS s
+  pub length-pointsS : (s : Stmt) (i k : ℕ) → length (pointsS s i k) ≡ sizeS s
   length-pointsS skip i k = refl
   length-pointsS (assign v e) i k = omega (arith, length-replicate {A = Point ℕ} (sizeE e) nowhere)
   length-pointsS (if e b) i k = omega (arith, length-behind (sizeE e) nowhere (pointsB b (i + 1 + sizeE e) k), length-pointsB b (i + 1 + sizeE e) k)
@@ -231,7 +231,7 @@ mutual
   length-pointsS suspend i k = refl
   length-pointsS (await v) i k = refl
 
-  length-pointsB : (b : Body) (i k : ℕ) → length (pointsB b i k) ≡ sizeB b
+  pub length-pointsB : (b : Body) (i k : ℕ) → length (pointsB b i k) ≡ sizeB b
   length-pointsB fin i k = refl
   length-pointsB (s ▸ b) i k = rw (length-append, length-pointsS s i (enter b (i + sizeS s) k), length-pointsB b (i + sizeS s) k)
 

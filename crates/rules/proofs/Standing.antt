@@ -14,11 +14,11 @@ use lib.Seq.{drop-drop}
 use borrow.Author.Tests.{eq-eqb, ne-eqb, le-leb, lt-leb}
 use Rattle.rules.specs.Demand.{Bytes}
 use Rattle.rules.specs.Recipe.{Expr, constant, variable, two, one, Stmt, skip, assign, if, while, spawn, suspend, await, Body, fin, _▸_, Recipe, sizeE, sizeS, sizeB, sizeR, row, encodeE, encodeS, encodeB, encode, NamedE, NamedS, NamedB, WithinR}
-use Rattle.rules.specs.Table.{kindOf, spanOf, inner, after, records, exprOf, fine, check, recipeOf}
+use Rattle.rules.specs.Table.{kindOf, inner, after, records, exprOf, fine, check, recipeOf}
 use Rattle.rules.specs.Places.{Point, nowhere, stop, skips, assigns, tests, spawns, suspends, awaits, enter, pointsS, pointsB, pointsR, at, stands, isPlace}
 use Rattle.rules.specs.Standing.{nextOf, bodyPlace, pointAt, SpawnsAt, StandsAt}
 use Rattle.rules.specs.Grammar.{Spells}
-use Rattle.rules.proofs.Grammar.Rows.{inner-row, span-row, value-row, length-encodeE, length-encodeS, length-encodeB, length-encode, stmt-pos, after-encodeE}
+use Rattle.rules.proofs.Grammar.Rows.{inner-row, span-row, span-encodeE, value-row, length-encodeE, length-encodeS, length-encodeB, length-encode, stmt-pos, after-encodeE}
 use Rattle.rules.proofs.Grammar.Reading.{expr-of, number-value}
 use Rattle.rules.proofs.Grammar.Theorem.{accepted-spells}
 use Rattle.rules.proofs.Places.{length-pointsR}
@@ -35,14 +35,6 @@ module _ (e : Expr) (y p : List ℕ) (w : NamedE e) (i : inner p ≡ encodeE e +
 
   spelt-there : (e : Expr) × (inner p ≡ encodeE e ++ after (inner p)) × NamedE e
   spelt-there = (e, i ∙ ap (λ (l : List ℕ). encodeE e ++ l) (sym behind-is), w)
-
--- an expression's first record and what that encloses are all of it
-span-encodeE : (e : Expr) (q : List ℕ) → 1 + spanOf (encodeE e ++ q) ≡ sizeE e
-unfolding sizeE encodeE
-span-encodeE (constant z) q = ap (λ (s : ℕ). 1 + s) (span-row 9 0 0 z q)
-span-encodeE (variable n) q = ap (λ (s : ℕ). 1 + s) (span-row 10 n 0 (pos 0) q)
-span-encodeE (two o a b) q = ap (λ (s : ℕ). 1 + s) (span-row 11 o (sizeE a + sizeE b) (pos 0) ((encodeE a ++ encodeE b) ++ q))
-span-encodeE (one o a) q = ap (λ (s : ℕ). 1 + s) (span-row 12 o (sizeE a) (pos 0) (encodeE a ++ q))
 
 -- where a body is entered
 body-place : (e : Expr) (b : Body) (p : List ℕ) (i k : ℕ) → NamedE e → inner p ≡ encodeE e ++ encodeB b → bodyPlace p i k ≡ enter b (i + 1 + sizeE e) k

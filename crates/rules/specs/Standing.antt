@@ -11,7 +11,7 @@ use Rattle.rules.specs.Recipe.{Expr, encodeE, NamedE}
 use Rattle.rules.specs.Table.{kindOf, nameOf, spanOf, valueOf, inner, after, exprOf}
 use Rattle.rules.specs.Places.{Point, nowhere, stop, skips, assigns, tests, spawns, suspends, awaits}
 
--- where a statement leads once it is done (0 if it leads nowhere)
+-- where a statement leads once it is done (for a test: where it is not true; 0 where no statement stands)
 abbrev pub nextOf : Point ℕ → ℕ
 nextOf nowhere = 0
 nextOf stop = 0

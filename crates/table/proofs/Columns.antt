@@ -2,17 +2,15 @@
 -- Assumes nothing.
 use Prim.Native.Nat.{ℕ, _+_, _*_, _≤_, _<_}
 use mathlib.Core.Path.{_≡_, refl, sym, ap, ap₂, _∙_}
-use mathlib.Core.Bool.{Bool, true, false, _&&_, cond}
+use mathlib.Core.Bool.{Bool, true, false, _&&_}
 use native.Mathlib.Omega.{arith}
 use native.Mathlib.Decide.{decLt, decLe}
 use mathlib.Core.Logic.{dite}
-use lib.Dec.{eqb, leb, ltb}
+use lib.Dec.{eqb, leb}
 use mathlib.Core.List.{List}
 use lib.ListN.{length, getD, List·getD-map}
-use lib.Signed.{leZ}
 use borrow.Author.Tests.{eq-eqb, ne-eqb, le-leb, lt-leb, lt-ltb, le-ltb, leb-true, eqb-true}
 use Rattle.rules.specs.Fields.{word, signed}
-use Rattle.rules.specs.Values.{isZero}
 use Rattle.rules.specs.Table.{Encloses, nothing, statements, one-expression, expression-statements, two-expressions, Field, unused, procedure-number, any, kind, kinds, kindRow, Sort, procedure, statement, expression, isOf, Ends, endsFit, spanFits, valueFits, kindOf, nameOf, spanOf, spanRight, nameRight, valueRight, recordFault}
 use Rattle.rules.proofs.Verdicts.{and-true}
 use Rattle.table.specs.Check.{leastSpan, mostSpan, mostWord, nameLeasts, nameMosts, spanLeasts, spanMosts, codeOf, codes, valueMosts}

@@ -1,7 +1,7 @@
 -- The check of an expression, answer by answer, by the tests that lead to it.
 -- Assumes nothing.
-use Prim.Native.Nat.{ℕ, zero, suc, _+_, _-_, _*_, _%_, _≤_, _<_}
-use mathlib.Core.Path.{_≡_, refl, sym, ap, _∙_, subst}
+use Prim.Native.Nat.{ℕ, zero, suc, _+_, _-_, _*_, _≤_, _<_}
+use mathlib.Core.Path.{_≡_, refl, sym, ap, subst}
 use mathlib.Core.Bool.{true}
 use mathlib.Core.List.{List}
 use native.Mathlib.Omega.{arith}
@@ -11,10 +11,10 @@ use mathlib.Core.Logic.{dite}
 use lib.Dec.{leb}
 use lib.ListN.{length}
 use borrow.Author.Tests.{leb-true, ltb-true}
-use Rattle.rules.specs.Table.{kindOf, spanOf, inner, after, kindRow, Sort, statement, expression, Ends, at-end, before-end, within, spanFits, recordFault, Verdict, fine, fault, _else_, enclosed, checkE}
+use Rattle.rules.specs.Table.{kindOf, spanOf, inner, after, kindRow, Sort, expression, Ends, at-end, before-end, spanFits, recordFault, Verdict, fine, fault, enclosed, checkE}
 use Rattle.rules.proofs.Verdicts.{and-true}
-use Rattle.rules.proofs.Grammar.Checking.{Right, right, right-ends, right-span, right-whole, unless-none, unless-some, operands, length-inner, length-after}
-use Rattle.table.specs.Check.{levelled, Row, Part}
+use Rattle.rules.proofs.Grammar.Checking.{Right, right-ends, right-span, right-whole, unless-none, unless-some, operands, length-inner, length-after}
+use Rattle.table.specs.Check.{levelled, Part}
 
 -- ---- a record's own fault, or no level left, or what lies below it
 

@@ -1,24 +1,24 @@
 -- The check of a row, record by record: its head, the statements that it encloses, and the rest of the row.
 -- Assumes nothing.
-use Prim.Native.Nat.{ℕ, zero, suc, _+_, _-_, _*_, _%_, _≤_, _<_}
-use mathlib.Core.Path.{_≡_, refl, sym, ap, _∙_, subst}
-use mathlib.Core.Bool.{Bool, true, false}
+use Prim.Native.Nat.{ℕ, zero, suc, _+_, _-_, _*_, _≤_, _<_}
+use mathlib.Core.Path.{_≡_, refl, sym, ap, _∙_}
+use mathlib.Core.Bool.{true}
 use mathlib.Core.List.{List, []}
 use native.Mathlib.Omega.{arith}
 use native.Mathlib.Numerals.{sub-one}
 use native.Mathlib.Decide.{ℕ-discrete}
-use lib.Dec.{leb, eqb}
+use lib.Dec.{leb}
 use lib.ListN.{length, drop, length-drop}
 use lib.Seq.{drop-drop}
 use borrow.Author.Tests.{leb-true, eqb-true}
 use Rattle.rules.specs.Table as T
 use Rattle.rules.specs.Table.{Encloses, nothing, one-expression, expression-statements, two-expressions, kindOf, spanOf, inner, after, kindRow, isOf, Sort, Ends, at-end, within, spanFits, recordFault, Verdict, fine, fault, _else_, enclosed, checkE, checkRows}
-use Rattle.rules.proofs.Verdicts.{and-true, else-fine}
-use Rattle.rules.proofs.Grammar.Checking.{Right, right, right-whole, right-span, unless-none, inside, row-empty, row-fault, row-deep, row-step, length-inner, length-after}
+use Rattle.rules.proofs.Verdicts.{and-true}
+use Rattle.rules.proofs.Grammar.Checking.{Right, right, right-whole, right-span, inside, row-empty, row-fault, row-deep, row-step, length-inner, length-after}
 use Rattle.rules.proofs.Grammar.Accepting.{right-of}
-use Rattle.table.specs.Check.{Row, Part, Parted, OfRow, procedures, statements, levelled, codeOf, enclosing, exprInside, headOf, bodyPart, bodyIndex, body, bodyAt}
+use Rattle.table.specs.Check.{Row, Part, Parted, OfRow, procedures, statements, codeOf, enclosing, exprInside, headOf, bodyPart, bodyIndex, body, bodyAt}
 use Rattle.table.proofs.Columns.{due-kind}
-use Rattle.table.proofs.Expressions.{level-own, level-none, level-below, inner-part}
+use Rattle.table.proofs.Expressions.{level-own, level-none, level-below}
 
 -- the kinds of a row are 1 to 8
 pub row-kind : {s : Sort} → OfRow s → (k : ℕ) → isOf s k ≡ true → (1 ≤ k) × (k ≤ 8)

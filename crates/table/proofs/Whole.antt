@@ -1,18 +1,18 @@
 -- The check of a whole table: its length, its procedures and its spawns, record by record.
 -- Assumes nothing.
-use Prim.Native.Nat.{ℕ, zero, suc, _+_, _-_, _*_, _/_, _%_, _≤_, _<_}
-use mathlib.Core.Path.{_≡_, refl, sym, ap, _∙_, subst}
-use mathlib.Core.Bool.{Bool, true, false, _&&_, cond}
-use mathlib.Core.List.{List, []}
+use Prim.Native.Nat.{ℕ, suc, _+_, _-_, _%_, _≤_, _<_}
+use mathlib.Core.Path.{_≡_, refl, ap, _∙_, subst}
+use mathlib.Core.Bool.{true, false, cond}
+use mathlib.Core.List.{List}
 use native.Mathlib.Omega.{arith}
-use lib.Dec.{eqb, leb, ltb}
-use lib.IntN.{pos, negsuc, natAbs}
+use lib.Dec.{eqb, leb}
+use lib.IntN.{natAbs}
 use native.Mathlib.Nat.{add-zero}
 use lib.ListN.{length, getD, drop, length-drop}
 use lib.Seq.{drop-drop, getD-drop}
-use borrow.Author.Tests.{eq-eqb, ne-eqb, le-leb, lt-leb, lt-ltb, le-ltb}
+use borrow.Author.Tests.{eq-eqb, ne-eqb, le-leb, lt-ltb, le-ltb}
 use Rattle.rules.specs.Fields.{signed}
-use Rattle.rules.specs.Table.{kindOf, Verdict, fine, fault, _else_, procedure, checkRows, checkSpawns, namesNone, procedures, records, lengthFits, check}
+use Rattle.rules.specs.Table.{kindOf, fine, fault, procedure, checkRows, checkSpawns, namesNone, procedures, records, lengthFits, check}
 use Rattle.rules.proofs.Grammar.Theorem.{length-fits}
 use Rattle.table.specs.Check.{Row}
 

@@ -42,7 +42,21 @@ const NAME_MOSTS: [u8; 13] = [0, 0, 0, 64, 0, 0, 64, 0, 64, 0, 64, 7, 1];
 
 const SPAN_LEASTS: [usize; 13] = [0, 0, 0, 1, 1, 1, 1, 0, 0, 0, 0, 2, 1];
 
-const SPAN_MOSTS: [usize; 13] = [0, 65535, 0, 65535, 65535, 65535, 65535, 0, 0, 0, 0, 65535, 65535];
+const SPAN_MOSTS: [usize; 13] = [
+    0,
+    65535,
+    0,
+    65535,
+    65535,
+    65535,
+    65535,
+    0,
+    0,
+    0,
+    0,
+    65535,
+    65535,
+];
 
 // What a kind encloses: 0 nothing, 1 statements, 2 an expression, 3 an expression and then statements, 4 two expressions.
 const ENCLOSES: [u8; 13] = [0, 1, 0, 2, 3, 3, 2, 0, 0, 0, 0, 4, 2];
@@ -189,7 +203,10 @@ pub fn check_expr(part: &[u8], at: usize, left: usize, ends: Ends) -> Verdict
         return Verdict::Fault { number, place: at };
     }
     if left == 0 {
-        return Verdict::Fault { number: 16, place: at };
+        return Verdict::Fault {
+            number: 16,
+            place: at,
+        };
     }
     let kind = part[0];
     if kind < 11 {
@@ -219,7 +236,10 @@ fn check_head(part: &[u8], sort: Sort, at: usize, left: usize) -> Verdict
         return Verdict::Fault { number, place: at };
     }
     if left == 0 {
-        return Verdict::Fault { number: 16, place: at };
+        return Verdict::Fault {
+            number: 16,
+            place: at,
+        };
     }
     let code = encloses(part);
     if code == 2 {
@@ -337,7 +357,10 @@ fn check_spawns(table: &[u8], n: usize) -> Verdict
     let mut i: usize = 0;
     while off < table.len() {
         if names_none(from(table, off), n) {
-            return Verdict::Fault { number: 17, place: i };
+            return Verdict::Fault {
+                number: 17,
+                place: i,
+            };
         }
         off += 8;
         i += 1;
@@ -351,7 +374,10 @@ pub fn check_table(table: &[u8]) -> Verdict
 {
     let len = table.len();
     if !length_fits(len) {
-        return Verdict::Fault { number: 11, place: 0 };
+        return Verdict::Fault {
+            number: 11,
+            place: 0,
+        };
     }
     let rows = check_rows(table, Sort::Procedure, 0, 17);
     match rows {

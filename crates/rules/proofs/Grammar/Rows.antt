@@ -39,6 +39,24 @@ size-pos (variable n) = omega arith
 size-pos (two o a b) = omega arith
 size-pos (one o a) = omega arith
 
+-- how far the first record reaches
+pub span-encodeE : (e : Expr) (q : List ℕ) → 1 + spanOf (encodeE e ++ q) ≡ sizeE e
+unfolding encodeE sizeE
+span-encodeE (constant z) q = ap (λ (s : ℕ). 1 + s) (span-row 9 0 0 z q)
+span-encodeE (variable n) q = ap (λ (s : ℕ). 1 + s) (span-row 10 n 0 (pos 0) q)
+span-encodeE (two o a b) q = ap (λ (s : ℕ). 1 + s) (span-row 11 o (sizeE a + sizeE b) (pos 0) ((encodeE a ++ encodeE b) ++ q))
+span-encodeE (one o a) q = ap (λ (s : ℕ). 1 + s) (span-row 12 o (sizeE a) (pos 0) (encodeE a ++ q))
+
+pub span-encodeS : (s : Stmt) (r : List ℕ) → 1 + spanOf (encodeS s ++ r) ≡ sizeS s
+unfolding encodeS sizeS
+span-encodeS skip r = refl
+span-encodeS (assign v e) r = omega (arith, span-row 3 v (sizeE e) (pos 0) (encodeE e ++ r))
+span-encodeS (if e b) r = omega (arith, span-row 4 0 (sizeE e + sizeB b) (pos 0) (encodeE e ++ encodeB b ++ r))
+span-encodeS (while e b) r = omega (arith, span-row 5 0 (sizeE e + sizeB b) (pos 0) (encodeE e ++ encodeB b ++ r))
+span-encodeS (spawn v p e) r = omega (arith, span-row 6 v (sizeE e) (pos p) (encodeE e ++ r))
+span-encodeS suspend r = refl
+span-encodeS (await v) r = refl
+
 pub stmt-pos : (s : Stmt) → 1 ≤ sizeS s
 unfolding sizeS
 stmt-pos skip = omega arith

@@ -60,9 +60,10 @@ module _ (t : ℕ) where
 
   -- what a call at the operands asks
   asked3 : (c : check-expr-lts.After-enclosed (callees t) (check-expr-at t) check-expr.Post) → (start3 (c .before) .args .left - 1 < t) × Part (start3 (c .before) .args .at + 1) (now (c .enclosed .result))
-  asked3 c =
-      (omega (arith, start3 (c .before) .pre .0, pos3 (c .before))
-      , rw (c .enclosed .ensures) (inner-part (start3 (c .before) .pre .1) (right3 (c .before)) (operator-span (right3 (c .before)) (c .before .if3 .left))))
+  asked3 c = (
+    omega (arith, start3 (c .before) .pre .0, pos3 (c .before)),
+    rw (c .enclosed .ensures) (inner-part (start3 (c .before) .pre .1) (right3 (c .before)) (operator-span (right3 (c .before)) (c .before .if3 .left))),
+  )
 
   -- past the check of the first of two operands
   abbrev First : Type 0

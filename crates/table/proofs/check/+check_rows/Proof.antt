@@ -6,8 +6,7 @@ use denote.Ref.{now}
 use lib.ListN.{length, drop}
 use Rattle.rules.specs.Table as T
 use Rattle.rules.specs.Table.{spanOf, fine, checkRows}
-use Rattle.rules.proofs.Grammar.Checking.{right-whole}
-use Rattle.table.specs.Check.{sortOf, verdictOf, OfRow, statements, Row, Part, Parted, headOf, body, bodyAt}
+use Rattle.table.specs.Check.{sortOf, verdictOf, OfRow, statements, Part, headOf, body, bodyAt}
 use Rattle.table.proofs.Rows.{HeadFine, head-fine, parted, body-row, Left, left-start, left-end, left-part, left-head, left-inside, left-next}
 use Prim.Native.Nat.{ℕ, _+_, _-_, _*_, _<_}
 use borrow.Fn.Kinds.{In}

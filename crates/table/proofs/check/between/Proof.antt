@@ -1,8 +1,6 @@
 use borrow.Author.Tests.{le-leb, lt-leb}
 use Rattle.table.proofs.check.between.Statement.{statement}
 use Rattle.table.proofs.check.between.Tie as tie
-use Rattle.table.proofs.check.between.Reads as reads
-use Rattle.table.proofs.check.between.Lts as lts
 
 returns : tie.Need-returns
 returns c = rw (lt-leb _ _ (c .if1 .taken))

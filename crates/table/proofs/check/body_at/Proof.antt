@@ -1,20 +1,14 @@
 use mathlib.Core.List.{List}
-use mathlib.Core.Path.{_≡_, sym, ap, _∙_}
-use Prim.Native.Nat.{ℕ, _+_, _*_, _≤_}
+use mathlib.Core.Path.{sym, ap, _∙_}
+use Prim.Native.Nat.{ℕ, _+_}
 use native.Mathlib.Omega.{arith}
 use denote.Ref.{now}
-use lib.ListN.{length}
-use Rattle.rules.specs.Table.{inner, spanOf}
+use Rattle.rules.specs.Table.{spanOf}
 use Rattle.table.specs.Check.{enclosing}
 use Rattle.table.proofs.Rows.{is-test, at-statements, at-test, at-none}
 use borrow.Author.Needs.{needs}
 use Rattle.table.proofs.check.body_at.Statement.{statement}
 use Rattle.table.proofs.check.body_at.Tie as tie
-use Rattle.table.proofs.check.body_at.Reads as reads
-use Rattle.table.proofs.check.body_at.Lts as lts
-use Rattle.table.proofs.check.encloses.Reads as encloses-reads
-use Rattle.table.proofs.record.enclosed.Reads as enclosed-reads
-use Rattle.table.proofs.record.span_of.Reads as span-of-reads
 
 encloses-requires : tie.Need-encloses-requires
 encloses-requires c κs = search needs

@@ -1,16 +1,11 @@
 use mathlib.Core.Path.{sym, ap, _∙_}
 use denote.Ref.{now}
-use Rattle.rules.specs.Table.{inner, after}
+use Rattle.rules.specs.Table.{after}
 use Rattle.table.specs.Check.{enclosing}
 use Rattle.table.proofs.Rows.{is-test, body-statements, body-test, no-body}
 use borrow.Author.Needs.{needs}
 use Rattle.table.proofs.check.body_of.Statement.{statement}
 use Rattle.table.proofs.check.body_of.Tie as tie
-use Rattle.table.proofs.check.body_of.Reads as reads
-use Rattle.table.proofs.check.body_of.Lts as lts
-use Rattle.table.proofs.check.encloses.Reads as encloses-reads
-use Rattle.table.proofs.record.beyond.Reads as beyond-reads
-use Rattle.table.proofs.record.enclosed.Reads as enclosed-reads
 
 encloses-requires : tie.Need-encloses-requires
 encloses-requires c κs = search needs

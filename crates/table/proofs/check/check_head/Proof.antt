@@ -1,11 +1,10 @@
 use mathlib.Core.Path.{_≡_, sym, ap, _∙_}
-use Prim.Native.Nat.{ℕ, _+_, _-_, _≤_, _<_}
+use Prim.Native.Nat.{_+_, _≤_}
 use native.Mathlib.Omega.{arith}
-use native.Mathlib.Nat.{pos-of-ne-zero}
 use denote.Ref.{now}
-use Rattle.rules.specs.Table.{kindOf, inner, at-end, within, recordFault, checkE}
+use Rattle.rules.specs.Table.{inner, at-end, within, recordFault, checkE}
 use Rattle.rules.proofs.Grammar.Checking.{Right, right, right-whole}
-use Rattle.table.specs.Check.{sortOf, enclosing, codeOf, Part, headOf}
+use Rattle.table.specs.Check.{sortOf, enclosing, codeOf, Part}
 use Rattle.table.proofs.Columns.{due-kind}
 use Rattle.table.proofs.Expressions.{inner-part}
 use Rattle.table.proofs.Rows.{head-own, head-none, head-below, expr-alone, expr-test, no-expr, some-span}

@@ -1,16 +1,11 @@
 use mathlib.Core.Path.{_≡_, refl, sym, ap, _∙_}
-use Prim.Native.Nat.{ℕ, _+_, _-_, _*_, _≤_}
+use Prim.Native.Nat.{_-_, _*_}
 use native.Mathlib.Omega.{arith}
-use denote.Ref.{now}
 use lib.ListN.{length, drop}
 use Rattle.rules.specs.Table.{checkSpawns, namesNone, records}
 use Rattle.table.proofs.Whole.{Rest, rest-start, rest-some, rest-next, spawns-here, spawns-next, spawns-end}
 use Rattle.table.proofs.check.check_spawns.Statement.{statement}
 use Rattle.table.proofs.check.check_spawns.Tie as tie
-use Rattle.table.proofs.check.check_spawns.Reads as reads
-use Rattle.table.proofs.check.check_spawns.Lts as lts
-use Rattle.table.proofs.check.names_none.Reads as names-none-reads
-use Rattle.table.proofs.record.from.Reads as from-reads
 
 abbrev Inv-loop : tie.InvT-loop
 Inv-loop table n off₀ i₀ off i = Rest table off × (checkSpawns (records (drop off table)) n i (drop off table) ≡ checkSpawns (records table) n 0 table) × (8 * i ≡ off)
@@ -42,10 +37,11 @@ loop-less c = omega arith
 
 loop-again : tie.Need-loop-again Inv-loop μ-loop
 loop-again c = let l = c .before .before .before .before .loop in
-    let h = c .before .before .before .loop-test .taken in
-    (rest-next (l .inv .0) h
-    , spawns-next (l .inv .0) _ (l .i) h (sym (c .before .names-none .ensures ∙ ap (namesNone _) (c .before .before .from .ensures)) ∙ c .if1 .left) ∙ l .inv .1
-    , omega (arith, l .inv .2))
+    let h = c .before .before .before .loop-test .taken in (
+      rest-next (l .inv .0) h,
+      spawns-next (l .inv .0) _ (l .i) h (sym (c .before .names-none .ensures ∙ ap (namesNone _) (c .before .before .from .ensures)) ∙ c .if1 .left) ∙ l .inv .1,
+      omega (arith, l .inv .2),
+    )
 
 returns-2 : tie.Need-returns-2 Inv-loop μ-loop
 returns-2 c = let l = c .before .loop in sym (spawns-end (l .inv .0) _ (l .i) (c .loop-test .left)) ∙ l .inv .1

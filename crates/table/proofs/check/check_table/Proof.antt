@@ -1,4 +1,4 @@
-use mathlib.Core.Path.{_≡_, sym, ap, _∙_}
+use mathlib.Core.Path.{sym, ap, _∙_}
 use Prim.Native.Nat.{ℕ}
 use denote.Ref.{now}
 use borrow.Author.Tests.{not-true, not-false}
@@ -8,12 +8,6 @@ use Rattle.table.proofs.Whole.{fit-row, wrong-length, rows-fault, spawn
 use borrow.Author.Needs.{needs}
 use Rattle.table.proofs.check.check_table.Statement.{statement}
 use Rattle.table.proofs.check.check_table.Tie as tie
-use Rattle.table.proofs.check.check_table.Reads as reads
-use Rattle.table.proofs.check.check_table.Lts as lts
-use Rattle.table.proofs.check.check_rows.Reads as check-rows-reads
-use Rattle.table.proofs.check.check_spawns.Reads as check-spawns-reads
-use Rattle.table.proofs.check.length_fits.Reads as length-fits-reads
-use Rattle.table.proofs.check.procedures_in.Reads as procedures-in-reads
 
 length-fits-requires : tie.Need-length-fits-requires
 length-fits-requires c κs = search needs

@@ -8,10 +8,6 @@ use Rattle.table.proofs.Columns.{code}
 use borrow.Author.Needs.{needs}
 use Rattle.table.proofs.check.encloses.Statement.{statement}
 use Rattle.table.proofs.check.encloses.Tie as tie
-use Rattle.table.proofs.check.encloses.Reads as reads
-use Rattle.table.proofs.check.encloses.Lts as lts
-use Rattle.table.proofs.check.code.Reads as code-reads
-use Rattle.table.proofs.record.wide.Reads as wide-reads
 
 shared-slice-read-wide : tie.Need-shared-slice-read-wide
 shared-slice-read-wide c = search needs

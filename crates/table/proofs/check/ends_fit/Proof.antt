@@ -1,8 +1,6 @@
 use borrow.Author.Needs.{needs}
 use Rattle.table.proofs.check.ends_fit.Statement.{statement}
 use Rattle.table.proofs.check.ends_fit.Tie as tie
-use Rattle.table.proofs.check.ends_fit.Reads as reads
-use Rattle.table.proofs.check.ends_fit.Lts as lts
 
 enum-told : tie.Need-enum-told
 enum-told c = search needs

@@ -1,10 +1,6 @@
-use mathlib.Core.Path.{_∙_}
 use borrow.Author.Needs.{needs}
 use Rattle.table.proofs.check.is_of.Statement.{statement}
 use Rattle.table.proofs.check.is_of.Tie as tie
-use Rattle.table.proofs.check.is_of.Reads as reads
-use Rattle.table.proofs.check.is_of.Lts as lts
-use Rattle.table.proofs.check.between.Reads as between-reads
 
 enum-told : tie.Need-enum-told
 enum-told c = search needs

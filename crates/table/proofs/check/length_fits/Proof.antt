@@ -1,8 +1,6 @@
 use Rattle.table.proofs.Whole.{length-zero, length-odd, length-last}
 use Rattle.table.proofs.check.length_fits.Statement.{statement}
 use Rattle.table.proofs.check.length_fits.Tie as tie
-use Rattle.table.proofs.check.length_fits.Reads as reads
-use Rattle.table.proofs.check.length_fits.Lts as lts
 
 returns : tie.Need-returns
 returns c = length-zero (c .before .args .len) (c .if1 .taken)

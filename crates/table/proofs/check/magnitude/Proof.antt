@@ -3,8 +3,6 @@ use Rattle.table.proofs.Whole.{magnitude-low, magnitude-high}
 use borrow.Author.Needs.{needs}
 use Rattle.table.proofs.check.magnitude.Statement.{statement}
 use Rattle.table.proofs.check.magnitude.Tie as tie
-use Rattle.table.proofs.check.magnitude.Reads as reads
-use Rattle.table.proofs.check.magnitude.Lts as lts
 
 returns : tie.Need-returns
 returns c = magnitude-low (c .before .args .word) (c .if1 .taken)

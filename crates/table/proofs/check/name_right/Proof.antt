@@ -1,6 +1,6 @@
 use denote.Ref.{now}
 use Rattle.rules.specs.Table.{nameOf}
-use mathlib.Core.Path.{_≡_, refl, sym, ap, ap₂, _∙_}
+use mathlib.Core.Path.{sym, ap₂, _∙_}
 use mathlib.Core.Bool.{_&&_}
 use lib.Dec.{leb}
 use Prim.Native.Nat.{ℕ}
@@ -8,12 +8,6 @@ use Rattle.table.proofs.Columns.{name-right}
 use borrow.Author.Needs.{needs}
 use Rattle.table.proofs.check.name_right.Statement.{statement}
 use Rattle.table.proofs.check.name_right.Tie as tie
-use Rattle.table.proofs.check.name_right.Reads as reads
-use Rattle.table.proofs.check.name_right.Lts as lts
-use Rattle.table.proofs.check.between.Reads as between-reads
-use Rattle.table.proofs.check.name_least.Reads as name-least-reads
-use Rattle.table.proofs.check.name_most.Reads as name-most-reads
-use Rattle.table.proofs.record.wide.Reads as wide-reads
 
 shared-slice-read-wide : tie.Need-shared-slice-read-wide
 shared-slice-read-wide c = search needs

@@ -1,4 +1,4 @@
-use mathlib.Core.Path.{_≡_, refl, ap, _∙_}
+use mathlib.Core.Path.{refl, ap, _∙_}
 use Prim.Native.Nat.{ℕ}
 use lib.Dec.{leb}
 use lib.IntN.{natAbs}
@@ -7,10 +7,6 @@ use borrow.Author.Tests.{ne-eqb, eq-eqb}
 use borrow.Author.Needs.{needs}
 use Rattle.table.proofs.check.names_none.Statement.{statement}
 use Rattle.table.proofs.check.names_none.Tie as tie
-use Rattle.table.proofs.check.names_none.Reads as reads
-use Rattle.table.proofs.check.names_none.Lts as lts
-use Rattle.table.proofs.check.magnitude.Reads as magnitude-reads
-use Rattle.table.proofs.record.word_of.Reads as word-of-reads
 
 shared-slice-read-if1 : tie.Need-shared-slice-read-if1
 shared-slice-read-if1 c = search needs

@@ -1,15 +1,12 @@
-use mathlib.Core.Path.{_≡_, sym, _∙_}
+use mathlib.Core.Path.{_≡_}
 use mathlib.Core.Logic.{⊎-elim}
-use Prim.Native.Nat.{ℕ, _+_, _-_, _≤_}
+use Prim.Native.Nat.{_+_, _-_, _≤_}
 use native.Mathlib.Omega.{arith}
-use denote.Ref.{now}
 use lib.ListN.{length, drop}
 use Rattle.rules.specs.Table.{procedures, records}
 use Rattle.table.proofs.Whole.{Rest, rest-start, rest-next, counted, passed-over, procedures-end}
 use Rattle.table.proofs.check.procedures_in.Statement.{statement}
 use Rattle.table.proofs.check.procedures_in.Tie as tie
-use Rattle.table.proofs.check.procedures_in.Reads as reads
-use Rattle.table.proofs.check.procedures_in.Lts as lts
 
 abbrev Inv-loop : tie.InvT-loop
 Inv-loop table count₀ off₀ count off = Rest table off × (count + procedures (records (drop off table)) (drop off table) ≡ procedures (records table) table) × (count ≤ off)

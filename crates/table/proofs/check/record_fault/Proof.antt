@@ -1,20 +1,12 @@
-use denote.Ref.{now}
 use Rattle.table.specs.Check.{sortOf}
 use Rattle.table.proofs.Columns.{fault-kind, fault-span, fault-name, fault-value, fault-none}
-use mathlib.Core.Path.{_≡_, refl, sym, ap, _∙_}
+use mathlib.Core.Path.{sym, _∙_}
 use native.Mathlib.Omega.{arith}
 use borrow.Author.Tests.{not-true, not-false}
-use Rattle.rules.specs.Table.{recordFault}
 use Rattle.table.proofs.Columns.{due-kind}
 use borrow.Author.Needs.{needs}
 use Rattle.table.proofs.check.record_fault.Statement.{statement}
 use Rattle.table.proofs.check.record_fault.Tie as tie
-use Rattle.table.proofs.check.record_fault.Reads as reads
-use Rattle.table.proofs.check.record_fault.Lts as lts
-use Rattle.table.proofs.check.is_of.Reads as is-of-reads
-use Rattle.table.proofs.check.name_right.Reads as name-right-reads
-use Rattle.table.proofs.check.span_right.Reads as span-right-reads
-use Rattle.table.proofs.check.value_right.Reads as value-right-reads
 
 shared-slice-read-is-of : tie.Need-shared-slice-read-is-of
 shared-slice-read-is-of c = search needs

@@ -1,6 +1,6 @@
 use Rattle.table.specs.Check.{endsOf}
 use denote.Ref.{now}
-use mathlib.Core.Path.{_≡_, refl, sym, ap, _∙_, subst}
+use mathlib.Core.Path.{refl, sym, ap, _∙_, subst}
 use lib.Dec.{leb}
 use Prim.Native.Nat.{ℕ, _<_, _≤_}
 use borrow.Author.Tests.{not-true, not-false}
@@ -8,13 +8,6 @@ use Rattle.table.proofs.Columns.{wrong-end, small-span, last-span}
 use borrow.Author.Needs.{needs}
 use Rattle.table.proofs.check.span_right.Statement.{statement}
 use Rattle.table.proofs.check.span_right.Tie as tie
-use Rattle.table.proofs.check.span_right.Reads as reads
-use Rattle.table.proofs.check.span_right.Lts as lts
-use Rattle.table.proofs.check.ends_fit.Reads as ends-fit-reads
-use Rattle.table.proofs.check.span_least.Reads as span-least-reads
-use Rattle.table.proofs.check.span_most.Reads as span-most-reads
-use Rattle.table.proofs.record.span_of.Reads as span-of-reads
-use Rattle.table.proofs.record.wide.Reads as wide-reads
 
 span-of-requires : tie.Need-span-of-requires
 span-of-requires c κs = search needs

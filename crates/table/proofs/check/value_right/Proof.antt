@@ -1,15 +1,10 @@
 use denote.Ref.{now}
 use lib.Dec.{leb}
-use mathlib.Core.Path.{_≡_, refl, sym, ap, _∙_}
+use mathlib.Core.Path.{sym, ap, _∙_}
 use Rattle.table.proofs.Columns.{value-right}
 use borrow.Author.Needs.{needs}
 use Rattle.table.proofs.check.value_right.Statement.{statement}
 use Rattle.table.proofs.check.value_right.Tie as tie
-use Rattle.table.proofs.check.value_right.Reads as reads
-use Rattle.table.proofs.check.value_right.Lts as lts
-use Rattle.table.proofs.check.value_most.Reads as value-most-reads
-use Rattle.table.proofs.record.wide.Reads as wide-reads
-use Rattle.table.proofs.record.word_of.Reads as word-of-reads
 
 shared-slice-read-wide : tie.Need-shared-slice-read-wide
 shared-slice-read-wide c = search needs

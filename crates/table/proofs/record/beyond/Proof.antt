@@ -4,9 +4,6 @@ use mathlib.Core.Path.{ap}
 use Rattle.table.proofs.Parts.{after-slice}
 use Rattle.table.proofs.record.beyond.Statement.{statement}
 use Rattle.table.proofs.record.beyond.Tie as tie
-use Rattle.table.proofs.record.beyond.Reads as reads
-use Rattle.table.proofs.record.beyond.Lts as lts
-use Rattle.table.proofs.record.span_of.Reads as span-of-reads
 
 -- src/record.rt:50:23
 span-of-requires : tie.Need-span-of-requires

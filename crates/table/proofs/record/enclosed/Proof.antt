@@ -4,9 +4,6 @@ use mathlib.Core.Path.{ap}
 use Rattle.table.proofs.Parts.{inner-slice}
 use Rattle.table.proofs.record.enclosed.Statement.{statement}
 use Rattle.table.proofs.record.enclosed.Tie as tie
-use Rattle.table.proofs.record.enclosed.Reads as reads
-use Rattle.table.proofs.record.enclosed.Lts as lts
-use Rattle.table.proofs.record.span_of.Reads as span-of-reads
 
 -- src/record.rt:41:23
 span-of-requires : tie.Need-span-of-requires

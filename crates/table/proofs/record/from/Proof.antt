@@ -3,8 +3,6 @@ use Rattle.table.proofs.Parts.{rest-slice}
 use borrow.Author.Needs.{needs}
 use Rattle.table.proofs.record.from.Statement.{statement}
 use Rattle.table.proofs.record.from.Tie as tie
-use Rattle.table.proofs.record.from.Reads as reads
-use Rattle.table.proofs.record.from.Lts as lts
 
 sub-result : tie.Need-sub-result
 sub-result c = search needs

@@ -1,0 +1,4 @@
+pub mod Range
+pub mod Zero
+pub mod Exact
+pub mod Twos
