@@ -12,7 +12,7 @@ use lib.ListN.{length, getD, drop, length-drop}
 use lib.Seq.{drop-drop, getD-drop}
 use borrow.Author.Tests.{eq-eqb, ne-eqb, le-leb, lt-ltb, le-ltb}
 use Rattle.rules.specs.Fields.{signed}
-use Rattle.rules.specs.Table.{kindOf, fine, fault, procedure, checkRows, checkSpawns, namesNone, procedures, records, lengthFits, check}
+use Rattle.rules.specs.Table.{Verdict, _else_, kindOf, fine, fault, procedure, checkRows, checkSpawns, namesNone, procedures, records, lengthFits, check}
 use Rattle.rules.proofs.Grammar.Theorem.{length-fits}
 use Rattle.table.specs.Check.{Row}
 
@@ -113,11 +113,8 @@ module _ (t : List ℕ) where
   unfolding check
   wrong-length h = rw h refl
 
-  module _ (h : lengthFits (length t) ≡ true) where
-    pub rows-fault : {n j : ℕ} → checkRows procedure 17 0 t ≡ fault n j → fault n j ≡ check t
-    unfolding check
-    rows-fault e = rw (h, e) refl
-
-    pub spawns-last : checkRows procedure 17 0 t ≡ fine → checkSpawns (records t) (procedures (records t) t) 0 t ≡ check t
-    unfolding check
-    spawns-last e = rw (h, e) refl
+  -- what was found of the procedures is v, of the spawns among so many procedures w
+  pub both : {v w : Verdict} {n : ℕ} → lengthFits (length t) ≡ true → v ≡ checkRows procedure 17 0 t → n ≡ procedures (records t) t
+      → w ≡ checkSpawns (records t) n 0 t → (v else w) ≡ check t
+  unfolding check
+  both h e f g = rw (e, g, f, h) refl

@@ -10,7 +10,7 @@ ghost use mathlib.Core.Bool.{_&&_};
 ghost use lib.Dec.{leb};
 ghost use Prim.Native.Nat.{_+_, _*_, _≤_, _<_};
 ghost use lib.ListN.{length, getD};
-ghost use Rattle.rules.specs.Table.{kindOf, isOf, endsFit, spanRight, nameRight, valueRight, recordFault, checkE, checkRows, checkSpawns, namesNone, procedures, records, lengthFits, check};
+ghost use Rattle.rules.specs.Table.{kindOf, isOf, endsFit, spanRight, nameRight, valueRight, recordFault, checkE, checkRows, checkSpawns, namesNone, procedures, records, lengthFits, check, _else_};
 ghost use Rattle.rules.specs.Fields.{signed};
 ghost use lib.IntN.{natAbs};
 ghost use Rattle.table.specs.Check.{nameLeasts, nameMosts, spanLeasts, spanMosts, codeOf, codes, enclosing, valueMosts, sortOf, endsOf, verdictOf, Part, Row, OfRow, headOf, body, bodyAt, Parted};
@@ -380,9 +380,17 @@ pub fn check_table(table: &[u8]) -> Verdict
         };
     }
     let rows = check_rows(table, Sort::Procedure, 0, 17);
-    match rows {
+    let spawns = check_spawns(table, procedures_in(table));
+    earlier(rows, spawns)
+}
+
+// The first verdict where it is a fault, else the second.
+fn earlier(first: Verdict, second: Verdict) -> Verdict
+    ensures { λ r. ⌜ verdictOf r ≡ (verdictOf first else verdictOf second) ⌝ }
+{
+    match first {
         Verdict::Fault { number, place } => Verdict::Fault { number, place },
-        Verdict::Fine => check_spawns(table, procedures_in(table)),
+        Verdict::Fine => second,
     }
 }
 

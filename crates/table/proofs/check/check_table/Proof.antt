@@ -1,10 +1,8 @@
-use mathlib.Core.Path.{sym, ap, _∙_}
-use Prim.Native.Nat.{ℕ}
+use mathlib.Core.Path.{sym, _∙_}
 use denote.Ref.{now}
 use borrow.Author.Tests.{not-true, not-false}
-use Rattle.rules.specs.Table.{checkSpawns, records}
-use Rattle.table.specs.Check.{verdictOf, OfRow, procedures}
-use Rattle.table.proofs.Whole.{fit-row, wrong-length, rows-fault, spawns-last}
+use Rattle.table.specs.Check.{OfRow}
+use Rattle.table.proofs.Whole.{fit-row, wrong-length, both}
 use borrow.Author.Needs.{needs}
 use Rattle.table.proofs.check.check_table.Statement.{statement}
 use Rattle.table.proofs.check.check_table.Tie as tie
@@ -18,24 +16,20 @@ returns c = wrong-length _ (sym (c .before .length-fits .ensures) ∙ not-true _
 check-rows-requires : tie.Need-check-rows-requires
 check-rows-requires c κs = (fit-row (now (c .before .before .before .args .table)) (sym (c .before .length-fits .ensures) ∙ not-false _ (c .if1 .left)), OfRow.procedures)
 
-enum-known-rows : tie.Need-enum-known-rows
-enum-known-rows c = search needs
-
-enum-told : tie.Need-enum-told
-enum-told c = search needs
-
 procedures-in-requires : tie.Need-procedures-in-requires
-procedures-in-requires c κs = fit-row (now (c .before .before .before .before .before .before .args .table)) (sym (c .before .before .before .before .length-fits .ensures) ∙ not-false _ (c .before .before .before .if1 .left))
+procedures-in-requires c κs = fit-row (now (c .before .before .before .before .args .table)) (sym (c .before .before .length-fits .ensures) ∙ not-false _ (c .before .if1 .left))
 
 check-spawns-requires : tie.Need-check-spawns-requires
-check-spawns-requires c κs = fit-row (now (c .before .before .before .before .before .before .before .args .table)) (sym (c .before .before .before .before .before .length-fits .ensures) ∙ not-false _ (c .before .before .before .before .if1 .left))
+check-spawns-requires c κs = fit-row (now (c .before .before .before .before .before .args .table)) (sym (c .before .before .before .length-fits .ensures) ∙ not-false _ (c .before .before .if1 .left))
+
+earlier-requires : tie.Need-earlier-requires
+earlier-requires c κs = search needs
 
 returns-2 : tie.Need-returns-2
-returns-2 c = rows-fault _ (sym (c .before .before .before .before .before .length-fits .ensures) ∙ not-false _ (c .before .before .before .before .if1 .left)) (sym (c .before .before .before .check-rows .ensures) ∙ ap verdictOf (c .before .rows .given .1))
-
-returns-3 : tie.Need-returns-3
-returns-3 c = c .check-spawns .ensures ∙ ap (λ (n : ℕ). checkSpawns (records (now (c .before .before .before .before .before .before .before .before .args .table))) n 0 (now (c .before .before .before .before .before .before .before .before .args .table))) (c .before .procedures-in .ensures)
-    ∙ spawns-last _ (sym (c .before .before .before .before .before .before .length-fits .ensures) ∙ not-false _ (c .before .before .before .before .before .if1 .left)) (sym (c .before .before .before .before .check-rows .ensures) ∙ ap verdictOf (c .before .before .enum-told .given .1))
+returns-2 c =
+    let t = now (c .before .before .before .before .before .before .before .args .table) in
+    let fits = sym (c .before .before .before .before .before .length-fits .ensures) ∙ not-false _ (c .before .before .before .before .if1 .left) in
+    c .earlier .ensures ∙ both t fits (c .before .before .before .check-rows .ensures) (c .before .before .procedures-in .ensures) (c .before .check-spawns .ensures)
 
 pub check-table-spec : {M : Type 1} → statement M
 check-table-spec =
@@ -44,9 +38,7 @@ check-table-spec =
     length-fits-requires
     returns
     check-rows-requires
-    enum-known-rows
-    enum-told
     procedures-in-requires
     check-spawns-requires
-    returns-2
-    returns-3)
+    earlier-requires
+    returns-2)
