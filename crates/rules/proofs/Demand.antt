@@ -73,7 +73,7 @@ unfolding logBytes
 log-append [] ys = refl
 log-append (x ∷ xs) ys = ap (λ (l : List ℕ). eventRow x ++ l) (log-append xs ys) ∙ sym (append-assoc (eventRow x) (logBytes xs) (logBytes ys))
 
-written-is : (r : Recipe) (u : Run (recipes r)) (l : List ℕ) → written (outcome r u l) ≡ logBytes (log (recipes r) u)
+pub written-is : (r : Recipe) (u : Run (recipes r)) (l : List ℕ) → written (outcome r u l) ≡ logBytes (log (recipes r) u)
 unfolding outcome
 written-is r u l = take-at (logBytes (log (recipes r) u)) (drop (8 * length (log (recipes r) u)) l) (8 * length (log (recipes r) u)) (log-length (log (recipes r) u))
 

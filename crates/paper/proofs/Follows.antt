@@ -1,0 +1,120 @@
+-- A step over places is exactly the one rule of the paper that applies to the statements still to do.
+-- Assumes nothing.
+use Prim.Native.Nat.{ℕ}
+use mathlib.Core.Path.{_≡_, refl, sym, ap, _∙_, subst}
+use mathlib.Core.Logic.{_↔_, _⊎_, inl, inr}
+use mathlib.Core.Option.{Option}
+use native.Mathlib.Omega.{arith}
+use Rattle.rules.specs.Recipe.{Recipe, Within}
+use Rattle.rules.specs.State.{State}
+use Rattle.rules.specs.Log.{Event}
+use Rattle.rules.specs.Scheduler.{Limit, Rules, Next, finish, jam, bar, goes, next}
+use Rattle.rules.specs.Steps.{Limits}
+use Rattle.paper.specs.Paper.{PaperState, unlimited, Rule, Applies, Barred, barred, Finished, Stuck}
+use Rattle.paper.specs.Follows.{places, statements, shown, shownNext, Placed, Ends, by-finish, by-jam, by-limit, Follows}
+use Rattle.paper.proofs.Shown.{same-next, PlacedNext, placed-next}
+use Rattle.paper.proofs.Exact.{Says, says, rule-next, finished-next, stuck-next, barred-next}
+use Rattle.paper.proofs.Derivations.{one-rule}
+
+module _ (full : Limits) (r : Recipe) (w : Within r) (c : State) (p : Placed r c) where
+  abbrev R : Rules
+  R = places full r
+
+  abbrev S : Rules
+  S = statements full r
+
+  same : next S (shown r c) ≡ shownNext full r (next R c)
+  same = same-next full r w c p
+
+  -- what comes next over places, said by the rules
+  said : (y : Next R) → next R c ≡ y → Says full r (shown r c) (shownNext full r y)
+  said y h = subst (Says full r (shown r c)) (same ∙ ap (shownNext full r) h) (says full r (shown r c))
+
+  -- and back: what comes next over statements is shown by what comes next over places
+  abbrev Back : Next R → Next S → Type 0
+  Back y finish = y ≡ finish
+  Back y jam = y ≡ jam
+  Back y (bar l) = y ≡ bar l
+  Back y (goes x d) = (e : State) × (y ≡ goes x e) × (shown r e ≡ d)
+
+  shown-back : (y : Next R) → Back y (shownNext full r y)
+  shown-back finish = refl
+  shown-back jam = refl
+  shown-back (bar l) = refl
+  shown-back (goes x e) = (e, refl, refl)
+
+  back : (z : Next S) → next S (shown r c) ≡ z → Back (next R c) z
+  back z h = subst (Back (next R c)) (sym same ∙ h) (shown-back (next R c))
+
+  finishes : (next R c ≡ finish) ↔ Finished (shown r c)
+  finishes = (λ h. said finish h, λ u. back finish (finished-next full r u))
+
+  jams : (next R c ≡ jam) ↔ Stuck (shown r c)
+  jams = (λ h. said jam h, λ u. back jam (stuck-next full r u))
+
+  bars : (l : Limit) → (next R c ≡ bar l) ↔ Barred full r l (shown r c)
+  bars l = (λ h. said (bar l) h, λ u. back (bar l) (barred-next full r u))
+
+  only : (x : Option Event) (d : PaperState)
+      → Rule full r (shown r c) x d
+      → (e : State) × (next R c ≡ goes x e) × (shown r e ≡ d)
+  only x d u = back (goes x d) (rule-next full r u)
+
+  -- a rule applies where what comes next is a step
+  abbrev Steps : Next R → Type 0
+  Steps finish = ⊥
+  Steps jam = ⊥
+  Steps (bar l) = ⊥
+  Steps (goes x e) = Unit {0}
+
+  steps : Applies full r (shown r c) → Steps (next R c)
+  steps (x, d, u) = subst Steps (sym (only x d u .1)) tt
+
+  no-rule : (¬ Applies full r (shown r c)) ↔ Ends full r c
+  no-rule = (there (next R c) refl, back-again)
+    where
+      there : (y : Next R) → next R c ≡ y → ¬ Applies full r (shown r c) → Ends full r c
+      there finish h n = by-finish h
+      there jam h n = by-jam h
+      there (bar l) h n = by-limit l h
+      there (goes x d) h n = absurd (n (x, shown r d, said (goes x d) h))
+
+      back-again : Ends full r c → ¬ Applies full r (shown r c)
+      back-again (by-finish h) u = subst Steps h (steps u)
+      back-again (by-jam h) u = subst Steps h (steps u)
+      back-again (by-limit l h) u = subst Steps h (steps u)
+
+-- without limits nothing is barred
+never-barred : {r : Recipe} {l : Limit} {c : PaperState} → ¬ Barred unlimited r l c
+never-barred (barred h) = let z : _≡_ {A = ℕ} 0 1 = cc in omega arith
+
+module _ (full : Limits) (r : Recipe) (w : Within r) (c : State) (p : Placed r c) where
+  abbrev FinishOrJam : Type 0
+  FinishOrJam = (next (places full r) c ≡ finish) ⊎ (next (places full r) c ≡ jam)
+
+  no-rule-unlimited : (¬ Applies unlimited r (shown r c)) ↔ FinishOrJam
+  no-rule-unlimited = (λ n. there (no-rule unlimited r w c p .0 n), λ h. no-rule unlimited r w c p .1 (back-again h))
+    where
+      there : Ends unlimited r c → FinishOrJam
+      there (by-finish h) = inl (finishes full r w c p .1 (finishes unlimited r w c p .0 h))
+      there (by-jam h) = inr (jams full r w c p .1 (jams unlimited r w c p .0 h))
+      there (by-limit l h) = absurd (never-barred (bars unlimited r w c p l .0 h))
+
+      back-again : FinishOrJam → Ends unlimited r c
+      back-again (inl h) = by-finish (finishes unlimited r w c p .1 (finishes full r w c p .0 h))
+      back-again (inr h) = by-jam (jams unlimited r w c p .1 (jams full r w c p .0 h))
+
+  -- the theorem of a step
+  pub follows : Follows full r c
+  follows = record {
+    same = same full r w c p;
+    rule = λ x d h. said full r w c p (goes x d) h;
+    placed = λ x d h. subst (PlacedNext full r w) h (placed-next full r w c p);
+    only = only full r w c p;
+    one-rule = λ x x′ d d′ u v. one-rule u v;
+    ends = finishes full r w c p;
+    jams = jams full r w c p;
+    bars = bars full r w c p;
+    no-rule = no-rule full r w c p;
+    no-rule-unlimited = no-rule-unlimited;
+  }
