@@ -4,8 +4,6 @@ use lib.ListN.{length-set}
 use borrow.Author.Needs.{needs}
 use Rattle.fields.proofs.put_half.Statement.{statement}
 use Rattle.fields.proofs.put_half.Tie as tie
-use Rattle.fields.proofs.put_half.Reads as reads
-use Rattle.fields.proofs.put_half.Lts as lts
 
 cast-b : tie.Need-cast-b
 cast-b c = search needs

@@ -6,10 +6,6 @@ use Rattle.rules.specs.Fields.{bits, bytes4}
 use borrow.Author.Needs.{needs}
 use Rattle.fields.proofs.put_value.Statement.{statement}
 use Rattle.fields.proofs.put_value.Tie as tie
-use Rattle.fields.proofs.put_value.Reads as reads
-use Rattle.fields.proofs.put_value.Lts as lts
-use Rattle.fields.proofs.put_word.Reads as put-word-reads
-use Rattle.values.proofs.unsigned.Reads as unsigned-reads
 
 unsigned-requires : tie.Need-unsigned-requires
 unsigned-requires c κs = search needs

@@ -5,8 +5,6 @@ use lib.ListN.{length-set}
 use borrow.Author.Needs.{needs}
 use Rattle.fields.proofs.put_word.Statement.{statement}
 use Rattle.fields.proofs.put_word.Tie as tie
-use Rattle.fields.proofs.put_word.Reads as reads
-use Rattle.fields.proofs.put_word.Lts as lts
 
 cast-b : tie.Need-cast-b
 cast-b c = search needs

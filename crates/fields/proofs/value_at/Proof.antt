@@ -4,10 +4,6 @@ use Rattle.rules.specs.Fields.{signed}
 use borrow.Author.Needs.{needs}
 use Rattle.fields.proofs.value_at.Statement.{statement}
 use Rattle.fields.proofs.value_at.Tie as tie
-use Rattle.fields.proofs.value_at.Reads as reads
-use Rattle.fields.proofs.value_at.Lts as lts
-use Rattle.values.proofs.signed.Reads as signed-reads
-use Rattle.fields.proofs.word_at.Reads as word-at-reads
 
 word-at-requires : tie.Need-word-at-requires
 word-at-requires c κs = search needs

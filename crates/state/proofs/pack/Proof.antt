@@ -1,13 +1,12 @@
 use mathlib.Core.Path.{_≡_, ap, _∙_}
 use Prim.Native.Nat.{ℕ, _+_, _*_}
-use mir.Facts.{toZ-ofZ}
+use mir.Syntax.{w32}
+use mir.Val.{toZ, ofZ}
+use Rattle.values.proofs.Exact.{result32}
 use Rattle.rules.specs.Fields.{bits}
 use borrow.Author.Needs.{needs}
 use Rattle.state.proofs.pack.Statement.{statement}
 use Rattle.state.proofs.pack.Tie as tie
-use Rattle.state.proofs.pack.Reads as reads
-use Rattle.state.proofs.pack.Lts as lts
-use Rattle.values.proofs.unsigned.Reads as unsigned-reads
 
 cast-result : tie.Need-cast-result
 cast-result c = search needs
@@ -36,7 +35,8 @@ add-result-2 c = search needs
 returns : tie.Need-returns
 returns c =
     let t = c .before .before .before .before .args .t in
-    let e : c .unsigned .result ≡ bits (t .parameter) = c .unsigned .ensures ∙ ap bits (toZ-ofZ (record { sfits = c .before .struct-told .given .1 .1 .0 .1 })) in
+    let f : toZ w32 (ofZ w32 (t .parameter)) ≡ t .parameter = result32 (c .before .struct-told .given .1 .1 .0 .1) in
+    let e : c .unsigned .result ≡ bits (t .parameter) = c .unsigned .ensures ∙ ap bits f in
     ap (λ (n : ℕ). t .number + 65536 * t .place + 4294967296 * n) e
 
 pub pack-spec : {M : Type 1} → statement M

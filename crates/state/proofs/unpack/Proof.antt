@@ -5,9 +5,6 @@ use Rattle.values.proofs.Exact.{result32}
 use borrow.Author.Needs.{needs}
 use Rattle.state.proofs.unpack.Statement.{statement}
 use Rattle.state.proofs.unpack.Tie as tie
-use Rattle.state.proofs.unpack.Reads as reads
-use Rattle.state.proofs.unpack.Lts as lts
-use Rattle.values.proofs.signed.Reads as signed-reads
 
 cast-number : tie.Need-cast-number
 cast-number c = search needs
