@@ -6,8 +6,9 @@ use mathlib.Core.List.{List, [], _∷_, _++_, append-assoc, append-nil}
 use mathlib.Core.Logic.{⊎-elim}
 use native.Mathlib.Omega.{arith}
 use native.Mathlib.Nat.{eq-or-lt-of-le, mul-le-mul-right}
-use lib.ListN.{length, getD, take, drop, length-append, length-drop, List·getD-append}
-use lib.Seq.{take-all, take-add, take-append-le, drop-append-le, drop-at, drop-drop, drop-cons, getD-at, getD-take, getD-drop, ext-getD}
+use native.Mathlib.Numerals.{add-one}
+use lib.ListN.{length, getD, take, drop, set, length-append, length-drop, List·getD-append}
+use lib.Seq.{length-take-le, take-all, take-add, take-at, take-suc-set, sets, sets-eq, take-append-le, drop-append-le, drop-at, drop-drop, drop-cons, getD-at, getD-take, getD-drop, ext-getD}
 use Rattle.rules.specs.State.{tab, joined}
 use Rattle.rules.specs.Fairness.{Every}
 use Rattle.rules.proofs.Answers.{joined-length}
@@ -61,6 +62,17 @@ module _ {A : Type 0} (f : ℕ → A) where
       ext-getD d (tab n f) l (length-tab n ∙ sym e)
       (λ i h. let m : i < n = omega (arith, length-tab n) in getD-tab n i d m ∙ g i m)
 
+pub tab-same : {A : Type 0} (f g : ℕ → A) (n : ℕ) → ((i : ℕ) → i < n → f i ≡ g i) → tab n f ≡ tab n g
+unfolding tab
+tab-same f g zero h = refl
+tab-same f g (suc n) h = rw (tab-same f g n (λ i l. h i (omega arith)), h n (omega arith))
+
+-- the first of them and the others
+pub tab-first : {A : Type 0} (f : ℕ → A) (n : ℕ) → tab (suc n) f ≡ f 0 ∷ tab n (λ i. f (suc i))
+unfolding tab
+tab-first f zero = refl
+tab-first f (suc n) = ap (λ (l : List _). l ++ f (suc n) ∷ []) (tab-first f n)
+
 -- ---- parts of a list
 
 -- n elements from index a
@@ -78,6 +90,18 @@ take-parts n m a b = rw (← drop-drop n a b) (sym (take-add n m (drop a b)))
 -- the element at index j, which is r in the k elements from a
 pub getD-part : {A : Type 0} (b : List A) (a k r j : ℕ) (d : A) → r < k → j ≡ a + r → getD (take k (drop a b)) r d ≡ getD b j d
 getD-part b a k r j d h e = rw e (getD-take k (drop a b) r d h ∙ getD-drop a b r d)
+
+-- ---- joined parts
+
+pub joined-same : (f g : ℕ → List ℕ) (n : ℕ) → ((i : ℕ) → i < n → f i ≡ g i) → joined n f ≡ joined n g
+unfolding joined
+joined-same f g zero h = refl
+joined-same f g (suc n) h = rw (joined-same f g n (λ i l. h i (omega arith)), h n (omega arith))
+
+pub joined-add : (f : ℕ → List ℕ) (n m : ℕ) → joined (n + m) f ≡ joined n f ++ joined m (λ i. f (n + i))
+unfolding joined
+joined-add f n zero = let e : n + 0 ≡ n = omega arith in rw (e, append-nil)
+joined-add f n (suc m) = let e : n + suc m ≡ suc (n + m) = omega arith in rw (e, joined-add f n m, append-assoc)
 
 -- ---- joined parts of k elements each
 
@@ -107,3 +131,21 @@ module _ (k : ℕ) (f : ℕ → List ℕ) where
   parts-joined a b (suc n) g =
       let e : a + suc n * k ≡ a + n * k + k = omega arith in
       rw (e, take-add (a + n * k) k b, ← parts-joined a b n (λ i h. g i (omega arith)), g n (omega arith), append-assoc)
+
+-- ---- a list filled from its front
+
+-- one element more
+pub tab-more : {A : Type 0} (l : List A) (f : ℕ → A) (i : ℕ) (x : A) → i < length l → take i l ≡ tab i f → x ≡ f i → take (i + 1) (set l i x) ≡ tab (i + 1) f
+unfolding tab
+tab-more l f i x h p e = rw (add-one, take-suc-set l i x h, p, e)
+
+pub take-sets : {A : Type 0} (vs l : List A) (i : ℕ) → i + length vs ≤ length l → take (i + length vs) (sets l i vs) ≡ take i l ++ vs
+take-sets vs l i h =
+    rw (sets-eq vs l i h)
+    (take-at (take i l ++ vs) (drop (i + length vs) l) (i + length vs) (length-append (take i l) vs ∙ ap (λ (n : ℕ). n + length vs) (length-take-le i l (omega arith))))
+
+-- one part more, of k elements, stored at a
+pub joined-more : (l q : List ℕ) (f : ℕ → List ℕ) (i a k : ℕ) (vs : List ℕ) → length vs ≡ k → a + k ≤ length l → take a l ≡ q ++ joined i f → vs ≡ f i
+    → take (a + k) (sets l a vs) ≡ q ++ joined (i + 1) f
+unfolding joined
+joined-more l q f i a k vs n h p e = rw (← n, add-one) (take-sets vs l a (rw n h) ∙ rw (p, e, append-assoc))

@@ -49,14 +49,14 @@ four p q s t h =
     let e = and-true p q (f .0) in
     (e .0, e .1, f .1, g .1)
 
+pub head-facts : (b : List ℕ) → headFits b ≡ true → HeadFit b
+unfolding headFits
+head-facts b h =
+    let f = four (leb 1 (issuedIn b)) (leb (liveIn b) 32) (leb (activeIn b) (cond (eqb (liveIn b) 0) 0 1)) (eqb (word b 4) 0) h in
+    record { some-issued = leb-true _ _ (f .0); few = leb-true _ _ (f .1); active = leb-true _ _ (f .2); zeros = eqb-true _ _ (f .3) }
+
 module _ (place : ℕ → Bool) (b : List ℕ) where
   -- ---- one record
-
-  head-facts : headFits b ≡ true → HeadFit b
-  unfolding headFits
-  head-facts h =
-      let f = four (leb 1 (issuedIn b)) (leb (liveIn b) 32) (leb (activeIn b) (cond (eqb (liveIn b) 0) 0 1)) (eqb (word b 4) 0) h in
-      record { some-issued = leb-true _ _ (f .0); few = leb-true _ _ (f .1); active = leb-true _ _ (f .2); zeros = eqb-true _ _ (f .3) }
 
   facts-head : HeadFit b → headFits b ≡ true
   unfolding headFits
@@ -102,7 +102,7 @@ module _ (place : ℕ → Bool) (b : List ℕ) where
       let p = cond-fine (eqb (length b) 520) _ 21 0 h in
       let q = else-fine (checkRecords place b 33 0) _ (p .1) in
       let each = records-fit 33 0 (q .0) in
-      let head = head-facts (each 0 (omega arith) (omega arith)) in
+      let head = head-facts b (each 0 (omega arith) (omega arith)) in
       record {
         whole = eqb-true _ _ (p .0);
         head = head;

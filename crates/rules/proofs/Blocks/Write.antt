@@ -131,7 +131,7 @@ one-active none q = omega arith
 one-active (some t) q = rw (eqb·suc-zero (length q)) (omega arith)
 
 -- what a task record can hold
-record Held (t : Task ℕ) : Type 0 where
+pub record Held (t : Task ℕ) : Type 0 where
   pub number-fits : t .number < 65536
   pub place-fits : t .place < 65536
   pub parameter-fits : inRange (t .parameter) ≡ true

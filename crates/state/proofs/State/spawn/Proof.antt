@@ -1,0 +1,52 @@
+use mathlib.Core.Path.{ap, _∙_}
+use Prim.Native.Nat.{ℕ, _+_, _≤_}
+use native.Mathlib.Omega.{arith}
+use native.Mathlib.Numerals.{add-one}
+use mir.Facts.{toZ-ofZ}
+use lib.IntN.{ℤ}
+use Rattle.rules.specs.State as R
+use Rattle.rules.proofs.Numbers.{mag-range}
+use Rattle.state.specs.View.{count, packed}
+use Rattle.state.proofs.Told.{queue-length}
+use Rattle.state.proofs.Ring.{joins-task}
+use borrow.Author.Needs.{needs}
+use Rattle.state.proofs.State.spawn.Statement.{statement}
+use Rattle.state.proofs.State.spawn.Tie as tie
+
+add-number : tie.Need-add-number
+add-number c = search needs
+
+add-at : tie.Need-add-at
+add-at c = search needs
+
+pack-requires : tie.Need-pack-requires
+pack-requires c κs = search needs
+
+mul-self : tie.Need-mul-self
+mul-self c = search needs
+
+element-write-self : tie.Need-element-write-self
+element-write-self c = search needs
+
+add-self : tie.Need-add-self
+add-self c = search needs
+
+returns : tie.Need-returns
+returns c = let o = c .before in
+    let s = o .args .t1 in
+    let z = o .args .argument in
+    let few : s .queued + 1 + count (s .active) ≤ 32 = rw (o .pre .1) (omega arith) in
+    let t : ℤ → R.Task ℕ = λ v. record { number = s .issued + 1; place = o .args .place; parameter = v } in (
+      rw (
+        joins-task (s .queue) (s .front) (s .queued) (c .pack .result) (t z) (queue-length s _ (o .good .0)) (omega arith)
+            (record { number-fits = omega arith; place-fits = o .fits .place .fits; parameter-fits = mag-range z (o .fits .argument .sfits) })
+            (c .pack .ensures ∙ ap (λ v. packed (t v)) (toZ-ofZ (o .fits .argument))),
+        add-one,
+      ),
+      record { front-fits = o .pre .0 .front-fits; few = few },
+    )
+
+pub spawn-spec : {M : Type 1} → statement M
+spawn-spec =
+    tie.close
+    (tie.spec add-number add-at pack-requires mul-self element-write-self add-self returns)

@@ -1,0 +1,39 @@
+use mathlib.Core.Path.{sym, ap, _∙_}
+use Rattle.table.specs.Check.{verdictOf}
+use Rattle.state.proofs.Checking.{wrong-length, records-fault, numbers-decide}
+use borrow.Author.Needs.{needs}
+use Rattle.state.proofs.block.check.Statement.{statement}
+use Rattle.state.proofs.block.check.Tie as tie
+
+returns : tie.Need-returns
+returns c = wrong-length _ (c .before .before .before .args .block .now) (c .if1 .taken)
+
+check-records-requires : tie.Need-check-records-requires
+check-records-requires c κs = search needs
+
+enum-known-records : tie.Need-enum-known-records
+enum-known-records c = search needs
+
+enum-told : tie.Need-enum-told
+enum-told c = search needs
+
+check-numbers-requires : tie.Need-check-numbers-requires
+check-numbers-requires c κs = search needs
+
+returns-2 : tie.Need-returns-2
+returns-2 c = records-fault _ (c .before .before .before .before .before .before .before .args .block .now) (c .before .before .before .before .if1 .left) (sym (c .before .before .before .check-records .ensures) ∙ ap verdictOf (c .before .records .given .1))
+
+returns-3 : tie.Need-returns-3
+returns-3 c = c .check-numbers .ensures ∙ numbers-decide _ (c .before .before .before .before .before .before .before .args .block .now) (c .before .before .before .before .if1 .left) (sym (c .before .before .before .check-records .ensures) ∙ ap verdictOf (c .before .enum-told .given .1))
+
+pub check-spec : {M : Type 1} → statement M
+check-spec =
+    tie.close
+    (tie.spec
+    returns
+    check-records-requires
+    enum-known-records
+    enum-told
+    check-numbers-requires
+    returns-2
+    returns-3)

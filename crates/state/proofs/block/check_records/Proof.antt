@@ -1,0 +1,55 @@
+use mathlib.Core.Path.{_≡_, refl, sym, _∙_}
+use Prim.Native.Nat.{_-_, _≤_}
+use native.Mathlib.Omega.{arith}
+use borrow.Author.Tests.{not-true, not-false}
+use Rattle.rules.specs.Table.{recipeOf}
+use Rattle.rules.specs.Places.{isPlace}
+use Rattle.rules.specs.State.{checkRecords}
+use Rattle.state.proofs.Checking.{records-stop, records-go, records-end}
+use Rattle.state.proofs.block.check_records.Statement.{statement}
+use Rattle.state.proofs.block.check_records.Tie as tie
+
+abbrev Inv-loop : tie.InvT-loop
+Inv-loop table block i₀ i = (i ≤ 33) × (checkRecords (isPlace (recipeOf table)) block (33 - i) i ≡ checkRecords (isPlace (recipeOf table)) block 33 0)
+
+abbrev μ-loop : tie.MeasureT-loop
+μ-loop table block i₀ i = 33 - i
+
+loop-holds : tie.Need-loop-holds Inv-loop μ-loop
+loop-holds c = (omega arith, refl)
+
+record-fits-requires : tie.Need-record-fits-requires Inv-loop μ-loop
+record-fits-requires c κs = let o = c .before .before .before .before in
+    (o .pre .0, o .pre .1, omega arith)
+
+returns : tie.Need-returns Inv-loop μ-loop
+returns c = let l = c .before .before .before .loop in
+    records-stop _ (c .before .before .before .before .before .before .args .block .now) (l .i) (c .before .before .loop-test .taken) (sym (c .before .record-fits .ensures) ∙ not-true _ (c .if1 .taken)) ∙ l .inv .1
+
+add-i : tie.Need-add-i Inv-loop μ-loop
+add-i c = omega arith
+
+loop-less : tie.Need-loop-less Inv-loop μ-loop
+loop-less c = omega arith
+
+loop-again : tie.Need-loop-again Inv-loop μ-loop
+loop-again c = let l = c .before .before .before .loop in
+    (omega arith, records-go _ (c .before .before .before .before .before .before .args .block .now) (l .i) (c .before .before .loop-test .taken) (sym (c .before .record-fits .ensures) ∙ not-false _ (c .if1 .left)) ∙ l .inv .1)
+
+returns-2 : tie.Need-returns-2 Inv-loop μ-loop
+returns-2 c = let l = c .before .loop in
+    records-end _ (c .before .before .before .before .args .block .now) (l .i) (c .loop-test .left) ∙ l .inv .1
+
+pub check-records-spec : {M : Type 1} → statement M
+check-records-spec =
+    tie.close
+    (tie.spec
+    Inv-loop
+    μ-loop
+    loop-holds
+    record-fits-requires
+    returns
+    add-i
+    loop-less
+    loop-again
+    returns-2)

@@ -1,0 +1,52 @@
+use mathlib.Core.Path.{_≡_, sym, ap, _∙_}
+use Prim.Native.Nat.{ℕ, _*_}
+use native.Mathlib.Omega.{arith}
+use native.Mathlib.Nat.{add-zero}
+use lib.Dec.{leb}
+use lib.ListN.{getD, drop}
+use lib.Seq.{getD-drop}
+use borrow.Author.Tests.{le-leb, lt-leb, eq-eqb, ne-eqb}
+use Rattle.rules.specs.Table.{records, kindOf}
+use Rattle.rules.proofs.Standing.{is-place}
+use borrow.Author.Needs.{needs}
+use Rattle.state.proofs.block.is_place.Statement.{statement}
+use Rattle.state.proofs.block.is_place.Tie as tie
+
+returns : tie.Need-returns
+returns c = let o = c .before .before in
+    let i = o .args .i in
+    rw (is-place (o .args .table .now) (λ k. c .before .shared-slice-known .given k .fits) (o .pre) i, lt-leb 1 i (omega arith))
+
+returns-2 : tie.Need-returns-2
+returns-2 c = let o = c .before .before .before in
+    let i = o .args .i in
+    let t = o .args .table .now in
+    rw (is-place t (λ k. c .before .before .shared-slice-known .given k .fits) (o .pre) i, le-leb 1 i (omega arith), lt-leb i (records t) (c .if2 .taken))
+
+returns-3 : tie.Need-returns-3
+returns-3 c = let o = c .before .before .before .before in
+    let i = o .args .i in
+    let t = o .args .table .now in
+    rw (is-place t (λ k. c .before .before .before .shared-slice-known .given k .fits) (o .pre) i, le-leb 1 i (omega arith), le-leb i (records t) (c .before .if2 .left), eq-eqb i (records t) (c .if3 .taken))
+
+mul-wide : tie.Need-mul-wide
+mul-wide c = search needs
+
+shared-slice-read-wide : tie.Need-shared-slice-read-wide
+shared-slice-read-wide c = search needs
+
+wide-requires : tie.Need-wide-requires
+wide-requires c κs = search needs
+
+returns-4 : tie.Need-returns-4
+returns-4 c = let o = c .before .before .before .before .before .before in
+    let i = o .args .i in
+    let t = o .args .table .now in
+    let k : c .wide .result ≡ kindOf (drop (8 * i) t) = c .wide .ensures .0 ∙ sym (getD-drop (8 * i) t 0 0 ∙ ap (λ (n : ℕ). getD t n 0) (add-zero (8 * i))) in
+    rw (is-place t (λ k. c .before .before .before .before .before .shared-slice-known .given k .fits) (o .pre) i, le-leb 1 i (omega arith), le-leb i (records t) (c .before .before .before .if2 .left), ne-eqb i (records t) (c .before .before .if3 .left))
+    (ap (λ (n : ℕ). leb n 8) k)
+
+pub is-place-spec : {M : Type 1} → statement M
+is-place-spec =
+    tie.close
+    (tie.spec returns returns-2 returns-3 mul-wide shared-slice-read-wide wide-requires returns-4)

@@ -1,0 +1,91 @@
+use mathlib.Core.Path.{_≡_, sym, ap, _∙_}
+use Prim.Native.Nat.{_*_}
+use native.Mathlib.Omega.{arith}
+use borrow.Author.Tests.{le-leb, lt-leb, not-true, not-false}
+use Rattle.rules.specs.Fields.{half}
+use Rattle.rules.specs.Table.{recipeOf}
+use Rattle.rules.specs.Places.{isPlace}
+use Rattle.rules.specs.State.{taskFits}
+use borrow.Author.Needs.{needs}
+use Rattle.state.proofs.block.task_fits.Statement.{statement}
+use Rattle.state.proofs.block.task_fits.Tie as tie
+
+mul-half-at : tie.Need-mul-half-at
+mul-half-at c = search needs
+
+half-at-requires : tie.Need-half-at-requires
+half-at-requires c κs = search needs
+
+returns : tie.Need-returns
+unfolding taskFits
+returns c = let a = c .before .before .before .before .args in
+    let n = half (a .block .now) (8 * a .i) in
+    let e : c .before .half-at .result ≡ n = c .before .half-at .ensures in
+    rw (lt-leb 1 n (omega arith))
+
+half-at-requires-2 : tie.Need-half-at-requires-2
+half-at-requires-2 c κs = search needs
+
+returns-2 : tie.Need-returns-2
+unfolding taskFits
+returns-2 c = let a = c .before .before .before .before .before .before .args in
+    let n = half (a .block .now) (8 * a .i) in
+    let m = half (a .block .now) 0 in
+    let e : c .before .before .before .half-at .result ≡ n = c .before .before .before .half-at .ensures in
+    let d : c .before .half-at2 .result ≡ m = c .before .half-at2 .ensures in
+    rw (le-leb 1 n (omega arith), lt-leb n m (omega arith))
+
+is-new-requires : tie.Need-is-new-requires
+is-new-requires c κs = search needs
+
+returns-3 : tie.Need-returns-3
+unfolding taskFits
+returns-3 c = let a = c .before .before .before .before .before .before .before .before .args in
+    let n = half (a .block .now) (8 * a .i) in
+    let m = half (a .block .now) 0 in
+    let e : c .before .before .before .before .before .half-at .result ≡ n = c .before .before .before .before .before .half-at .ensures in
+    let d : c .before .before .before .half-at2 .result ≡ m = c .before .before .before .half-at2 .ensures in
+    rw (le-leb 1 n (omega arith), le-leb n m (omega arith), sym (c .before .is-new .ensures) ∙ not-true _ (c .if3 .taken))
+
+mul-half-at-2 : tie.Need-mul-half-at-2
+mul-half-at-2 c = search needs
+
+add-half-at : tie.Need-add-half-at
+add-half-at c = search needs
+
+half-at-requires-3 : tie.Need-half-at-requires-3
+half-at-requires-3 c κs = search needs
+
+cast-place : tie.Need-cast-place
+cast-place c = search needs
+
+is-place-requires : tie.Need-is-place-requires
+is-place-requires c κs = search needs
+
+returns-4 : tie.Need-returns-4
+unfolding taskFits
+returns-4 c = let a = c .before .before .before .before .before .before .before .before .before .before .args in
+    let n = half (a .block .now) (8 * a .i) in
+    let m = half (a .block .now) 0 in
+    let e : c .before .before .before .before .before .before .before .half-at .result ≡ n = c .before .before .before .before .before .before .before .half-at .ensures in
+    let d : c .before .before .before .before .before .half-at2 .result ≡ m = c .before .before .before .before .before .half-at2 .ensures in
+    rw (le-leb 1 n (omega arith), le-leb n m (omega arith), sym (c .before .before .before .is-new .ensures) ∙ not-false _ (c .before .before .if3 .left))
+    (c .is-place .ensures ∙ ap (isPlace (recipeOf (a .table .now))) (c .before .half-at3 .ensures))
+
+pub task-fits-spec : {M : Type 1} → statement M
+task-fits-spec =
+    tie.close
+    (tie.spec
+    mul-half-at
+    half-at-requires
+    returns
+    half-at-requires-2
+    returns-2
+    is-new-requires
+    returns-3
+    mul-half-at-2
+    add-half-at
+    half-at-requires-3
+    cast-place
+    is-place-requires
+    returns-4)
