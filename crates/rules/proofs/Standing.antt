@@ -212,10 +212,10 @@ first [] = refl
 first (b ∷ r) = refl
 
 module _ (t : List ℕ) (bytes : Bytes t) (fits : check t ≡ fine) where
-  spells : Spells t (recipeOf t)
+  pub spells : Spells t (recipeOf t)
   spells = accepted-spells t bytes fits
 
-  size : length t ≡ 8 * sizeR (recipeOf t)
+  pub size : length t ≡ 8 * sizeR (recipeOf t)
   size = ap length (spells .spelt) ∙ length-encode (recipeOf t)
 
   all : All (length (recipeOf t)) 0 (pointsR (recipeOf t) 0 stop) t

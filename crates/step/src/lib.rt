@@ -1,0 +1,2 @@
+// One step of a run: which queued tasks are ready, what the active task does next, and what a step tells.
+pub mod ready;
