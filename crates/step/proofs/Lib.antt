@@ -1,2 +1,5 @@
 pub mod Queue
 pub mod There
+pub mod Parts
+pub mod Acting
+pub mod Links

@@ -1,4 +1,5 @@
--- Of a queue that is given by index: what each task has, which numbers are live, and how many tasks stand before the first that can go on.
+-- Of a queue that is given by index: what each task has, which numbers are live and done, and how many tasks stand before
+-- the first that can go on.
 -- Assumes nothing.
 use Prim.Native.Nat.{ℕ, zero, suc, _+_, _≤_, _<_}
 use mathlib.Core.Path.{_≡_, refl, sym, ap, _∙_, subst}
@@ -23,7 +24,9 @@ use Rattle.rules.proofs.Scheduling.Bound.{count-append}
 use Rattle.step.specs.Ready.{ahead, natural}
 
 pub every-at : {A : Type 0} (P : A → Type 0) (f : ℕ → A) (n : ℕ) → Every P (tab n f) → (i : ℕ) → i < n → P (f i)
-every-at P f n h i l = subst P (getD-tab f n i (f i) l) (every-getD P (f i) (tab n f) h i (λ g. absurd (omega (arith, length-tab f n))))
+every-at P f n h i l =
+    subst P (getD-tab f n i (f i) l)
+    (every-getD P (f i) (tab n f) h i (λ g. absurd (omega (arith, length-tab f n))))
 
 -- ---- numbers
 
@@ -45,7 +48,9 @@ module _ (x : Recipe) (f : ℕ → Task ℕ) (k : ℕ) where
   count-one (suc n) i l e =
       rw (count-append (recipes x) k (tab n f) (f n ∷ []))
       (⊎-elim
-      (λ g. let last : eqb k (f n .number) ≡ true = eq-eqb k (f n .number) (e ∙ ap (λ (j : ℕ). f j .number) g) in rw last (omega arith))
+      (λ g.
+      let last : eqb k (f n .number) ≡ true = eq-eqb k (f n .number) (e ∙ ap (λ (j : ℕ). f j .number) g) in
+      rw last (omega arith))
       (λ g. omega (arith, count-one n i g e))
       (eq-or-lt-of-le {n = i} {m = n} (omega arith)))
 
@@ -56,7 +61,8 @@ module _ (x : Recipe) (f : ℕ → Task ℕ) (k : ℕ) where
   one-live n i l e = sym (lt-ltb 0 (count (recipes x) k (tab n f)) (count-one n i l e))
 
 -- a value is done if the number n that it is has been issued and is not live
-done-natural : (issued : ℕ) (live : ℕ → Bool) (z : ℤ) → isDone issued live z ≡ (leb 1 (natural z) && leb (natural z) issued && not (live (natural z)))
+done-natural : (issued : ℕ) (live : ℕ → Bool) (z : ℤ)
+    → isDone issued live z ≡ (leb 1 (natural z) && leb (natural z) issued && not (live (natural z)))
 unfolding isDone
 done-natural issued live (pos n) = refl
 done-natural issued live (negsuc n) = refl
@@ -87,7 +93,8 @@ in-one false x y n f h = ap suc (f (omega arith))
 module _ {T : Type 0} (go : T → Bool) where
   ahead-past : (ts us : List T) → ahead go ts ≡ length ts → ahead go (ts ++ us) ≡ length ts + ahead go us
   ahead-past [] us h = omega arith
-  ahead-past (t ∷ ts) us h = past-one (go t) (ahead go ts) (ahead go (ts ++ us)) (length ts) (ahead go us) (ahead-past ts us) h
+  ahead-past (t ∷ ts) us h =
+      past-one (go t) (ahead go ts) (ahead go (ts ++ us)) (length ts) (ahead go us) (ahead-past ts us) h
 
   ahead-in : (ts us : List T) → ahead go ts < length ts → ahead go (ts ++ us) ≡ ahead go ts
   ahead-in [] us h = absurd (omega arith)

@@ -14,15 +14,18 @@ use lib.Seq.{getD-drop}
 use borrow.Author.Tests.{lt-ltb, le-ltb, eq-eqb, ne-eqb, leb-true, ltb-true, eqb-true}
 use Rattle.rules.specs.Demand.{Bytes}
 use Rattle.rules.specs.Recipe.{read}
-use Rattle.rules.specs.Table.{kindOf, nameOf, records, fine, check, recipeOf}
-use Rattle.rules.specs.Places.{Point, nowhere, stop, skips, assigns, tests, spawns, suspends, awaits, at, isPlace}
+use Rattle.rules.specs.Table.{kindOf, nameOf, spanOf, records, fine, check, recipeOf}
+use Rattle.rules.specs.Places.{Point, nowhere, stop, skips, assigns, tests, spawns, suspends, awaits, at, isPlace, start}
 use Rattle.rules.specs.Standing.{nextOf, pointAt, StandsAt}
 use Rattle.rules.specs.State.{Task, Store}
 use Rattle.rules.specs.Scheduler.{ready, waits-for}
 use Rattle.rules.specs.Steps.{isDone, envOf, goTo, waitAt, pastAt}
 use Rattle.rules.proofs.Verdicts.{and-true}
 use Rattle.rules.proofs.Standing.{spells, size, at-is, stands-at, at-end, is-place}
+use Rattle.table.specs.Links.{isStatement}
 use Rattle.step.specs.Ready.{awaitAt}
+use Rattle.step.specs.Linked.{Leads, Linked}
+use Rattle.step.specs.Moves.{Part, Begins}
 
 -- ---- awaits among what can stand somewhere
 
@@ -64,21 +67,36 @@ module _ (x : Point ℕ) (s : Store) (live : ℕ → Bool) (t : Task ℕ) (n k :
 pub past-await : (x : Point ℕ) (t : Task ℕ) (n k : ℕ) → x ≡ awaits n k → pastAt x t ≡ goTo t k
 past-await x t n k e = rw e
 
-either : (b : Bool) (x y : Point ℕ) → isAwait x ≡ false → isAwait y ≡ false → isAwait (cond b x y) ≡ false
-either true x y h g = h
-either false x y h g = g
+-- what holds of each point that a chain of tests leads to
+choose : (f : Point ℕ → Bool) (v : Bool) (n m : ℕ) (x y : Point ℕ) → f x ≡ v → (¬ (n ≡ m) → f y ≡ v)
+    → f (cond (eqb n m) x y) ≡ v
+choose f v n m x y h g = dite (ℕ-discrete n m) (λ e. rw (eq-eqb n m e) h) (λ e. rw (ne-eqb n m e) (g e))
 
 other-kind : (p : List ℕ) (i next : ℕ) → ¬ (kindOf p ≡ 8) → isAwait (pointAt p i next) ≡ false
 unfolding pointAt
 other-kind p i next h =
-    rw (ne-eqb (kindOf p) 8 h)
-    (either (eqb (kindOf p) 1) _ _ refl
-    (either (eqb (kindOf p) 2) _ _ refl
-    (either (eqb (kindOf p) 3) _ _ refl
-    (either (eqb (kindOf p) 4) _ _ refl
-    (either (eqb (kindOf p) 5) _ _ refl
-    (either (eqb (kindOf p) 6) _ _ refl
-    (either (eqb (kindOf p) 7) _ _ refl refl)))))))
+    choose isAwait false (kindOf p) 1 _ _ refl (λ _.
+    choose isAwait false (kindOf p) 2 _ _ refl (λ _.
+    choose isAwait false (kindOf p) 3 _ _ refl (λ _.
+    choose isAwait false (kindOf p) 4 _ _ refl (λ _.
+    choose isAwait false (kindOf p) 5 _ _ refl (λ _.
+    choose isAwait false (kindOf p) 6 _ _ refl (λ _.
+    choose isAwait false (kindOf p) 7 _ _ refl (λ _. rw (ne-eqb (kindOf p) 8 h))))))))
+
+statement-kind : (p : List ℕ) (i next : ℕ) → 2 ≤ kindOf p → kindOf p ≤ 8 → isStatement (pointAt p i next) ≡ true
+unfolding pointAt
+statement-kind p i next h g =
+    rw (ne-eqb (kindOf p) 1 (omega arith))
+    (choose isStatement true (kindOf p) 2 _ _ refl (λ a.
+    choose isStatement true (kindOf p) 3 _ _ refl (λ b.
+    choose isStatement true (kindOf p) 4 _ _ refl (λ c.
+    choose isStatement true (kindOf p) 5 _ _ refl (λ d.
+    choose isStatement true (kindOf p) 6 _ _ refl (λ e.
+    choose isStatement true (kindOf p) 7 _ _ refl (λ f. rw (eq-eqb (kindOf p) 8 (omega arith)))))))))
+
+stop-kind : (p : List ℕ) (i next : ℕ) → kindOf p ≡ 1 → pointAt p i next ≡ stop
+unfolding pointAt
+stop-kind p i next h = rw h
 
 await-kind : (p : List ℕ) (i next : ℕ) → kindOf p ≡ 8 → pointAt p i next ≡ awaits (nameOf p) next
 unfolding pointAt
@@ -96,12 +114,12 @@ pub record Place (t : List ℕ) (i : ℕ) : Type 0 where
   pub placed : isPlace (recipeOf t) i ≡ true
 
 module _ {t : List ℕ} {i : ℕ} (p : Place t i) where
-  within : (1 ≤ i) × (i ≤ records t)
+  within : (1 ≤ i) × (i ≤ records t) × ((eqb i (records t) || leb (kindOf (drop (8 * i) t)) 8) ≡ true)
   within =
       let kind = eqb i (records t) || leb (kindOf (drop (8 * i) t)) 8 in
       let a = and-true (leb 1 i && leb i (records t)) kind (sym (is-place t (p .bytes) (p .accepted) i) ∙ p .placed) in
       let b = and-true (leb 1 i) (leb i (records t)) (a .0) in
-      (leb-true 1 i (b .0), leb-true i (records t) (b .1))
+      (leb-true 1 i (b .0), leb-true i (records t) (b .1), a .1)
 
   -- behind the last record
   pub end-there : length t ≤ 8 * i → at (recipeOf t) i ≡ stop
@@ -123,7 +141,8 @@ module _ {t : List ℕ} {i : ℕ} (p : Place t i) where
     pub few-there : i < 4096
     few-there = omega (arith, size t (p .bytes) (p .accepted), spells t (p .bytes) (p .accepted) .within .few)
 
-    await-there : kindOf (drop (8 * i) t) ≡ 8 → at (recipeOf t) i ≡ awaits (nameOf (drop (8 * i) t)) (nextOf (at (recipeOf t) i))
+    await-there : kindOf (drop (8 * i) t) ≡ 8
+        → at (recipeOf t) i ≡ awaits (nameOf (drop (8 * i) t)) (nextOf (at (recipeOf t) i))
     await-there e = point-there ∙ await-kind (drop (8 * i) t) i (nextOf (at (recipeOf t) i)) e
 
   await-is : isAwait (at (recipeOf t) i) ≡ awaitAt t (8 * i)
@@ -133,7 +152,9 @@ module _ {t : List ℕ} {i : ℕ} (p : Place t i) where
       rw (lt-ltb (8 * i) (length t) l)
       (dite (ℕ-discrete (kindOf (drop (8 * i) t)) 8)
       (λ e. ap isAwait (await-there l e) ∙ sym (eq-eqb (getD t (8 * i) 0) 8 (sym (kind-of t (8 * i)) ∙ e)))
-      (λ e. ap isAwait (point-there l) ∙ other-kind _ i _ e ∙ sym (ne-eqb (getD t (8 * i) 0) 8 (λ g. e (kind-of t (8 * i) ∙ g))))))
+      (λ e.
+      ap isAwait (point-there l) ∙ other-kind _ i _ e
+      ∙ sym (ne-eqb (getD t (8 * i) 0) 8 (λ g. e (kind-of t (8 * i) ∙ g))))))
       (λ l. rw (le-ltb (8 * i) (length t) (omega arith)) (ap isAwait (end-there (omega arith))))
 
   -- an await's record, by the test of its kind
@@ -159,3 +180,35 @@ module _ {t : List ℕ} {i : ℕ} (p : Place t i) where
   -- and elsewhere
   pub free-there : awaitAt t (8 * i) ≡ false → Free (at (recipeOf t) i)
   free-there h = free (at (recipeOf t) i) (await-is ∙ h)
+
+  -- a procedure's record, which is the end of the procedure before
+  pub stop-there : 8 * i < length t → getD t (8 * i) 0 ≡ 1 → at (recipeOf t) i ≡ stop
+  stop-there l h = point-there l ∙ stop-kind (drop (8 * i) t) i (nextOf (at (recipeOf t) i)) (kind-of t (8 * i) ∙ h)
+
+  -- a statement's record
+  module _ (l : 8 * i < length t) (h : ¬ (getD t (8 * i) 0 ≡ 1)) where
+    pub part-there : Part (drop (8 * i) t)
+    part-there = record { procedures = length (recipeOf t); stands = shape-there l }
+
+    pub span-there : i + 1 + spanOf (drop (8 * i) t) ≤ 4096
+    span-there =
+        let s = shape-there l .whole in
+        omega (arith, length-drop (8 * i) t, size t (p .bytes) (p .accepted), spells t (p .bytes) (p .accepted) .within .few)
+
+    pub from-two : 2 ≤ kindOf (drop (8 * i) t)
+    from-two = omega (arith, shape-there l .some-kind, kind-of t (8 * i))
+
+    pub to-eight : kindOf (drop (8 * i) t) ≤ 8
+    to-eight =
+        let other : eqb i (records t) ≡ false = ne-eqb i (records t) (omega (arith, room l)) in
+        leb-true (kindOf (drop (8 * i) t)) 8 (rw other at (within .2))
+
+    pub leads-there : (next : List ℕ) → Leads (recipeOf t) next
+        → at (recipeOf t) i ≡ pointAt (drop (8 * i) t) i (getD next i 0)
+    leads-there next f =
+        let s = ap isStatement (point-there l) ∙ statement-kind (drop (8 * i) t) i _ from-two to-eight in
+        point-there l ∙ ap (pointAt (drop (8 * i) t) i) (sym (f i s))
+
+    pub begins-there : (next starts : List ℕ) → Linked (recipeOf t) next starts
+        → Begins (start (recipeOf t)) starts (drop (8 * i) t)
+    begins-there next starts f e = let s = shape-there l .spawned e in f .start-is _ (s .small) (s .there)

@@ -15,8 +15,9 @@ use Rattle.rules.specs.State.{Task, State}
 use Rattle.rules.specs.Scheduler.{Readiness, ready, waits-for, readiness, canGo}
 use Rattle.rules.specs.Steps.{recipes}
 use Rattle.rules.specs.Fairness.{Every}
-use Rattle.state.specs.View.{queueOf}
+use Rattle.state.specs.View.{taskOf, entry, queueOf}
 use Rattle.step.specs.declared.ready.Wait.{Wait}
+use Rattle.step.specs.declared.ready.Queued.{Queued}
 use Rattle.step.specs.declared.ready.Wait.the-variants.{Ready, Waits}
 
 -- "each queued task is ready, or waits with the number it waits for"
@@ -49,6 +50,11 @@ natural (negsuc n) = 0
 -- an await's record starts at this byte of the table
 abbrev pub awaitAt : (table : List ℕ) → (off : ℕ) → Bool
 awaitAt t off = ltb off (length t) && eqb (getD t off 0) 8
+
+-- what is said of the queued task i from the front
+pub record Describes (table : List ℕ) (issued : ℕ) (variables : List ℤ) (queue : List ℕ) (front queued i : ℕ) (x : Queued) : Type 0 where
+  pub task-is : taskOf (x .task) ≡ entry queue front i
+  pub wait-is : readinessOf (x .wait) ≡ readyIn table (idle issued variables queue front queued) (entry queue front i)
 
 -- a task stands at a place of the recipe
 abbrev pub Placed : Recipe → Task ℕ → Type 0

@@ -11,8 +11,8 @@ ghost use Rattle.rules.specs.Places.{at, isPlace};
 ghost use Rattle.rules.specs.State as R;
 ghost use Rattle.rules.specs.Scheduler.{isLive};
 ghost use Rattle.rules.specs.Steps.{isDone, recipes, goTo, pastAt};
-ghost use Rattle.state.specs.View.{taskOf, entry, queueOf};
-ghost use Rattle.step.specs.Ready.{readinessOf, idle, readyIn, aheadIn, natural, awaitAt, Placed, Waiting};
+ghost use Rattle.state.specs.View.{taskOf, queueOf};
+ghost use Rattle.step.specs.Ready.{readinessOf, idle, readyIn, aheadIn, natural, awaitAt, Describes, Placed, Waiting};
 ghost use Rattle.step.specs.Linked.{Leads};
 
 pub enum Wait {
@@ -113,8 +113,7 @@ pub fn queued_at(
     i: usize,
 ) -> Queued
     requires { ⌜ Waiting (now table) (now queue) front queued × (i < queued) ⌝ }
-    ensures { λ r. ⌜ taskOf (r .task) ≡ entry (now (queue .entry)) front i ⌝ }
-    ensures { λ r. ⌜ readinessOf (r .wait) ≡ readyIn (now (table .entry)) (idle issued (now (variables .entry)) (now (queue .entry)) front queued) (entry (now (queue .entry)) front i) ⌝ }
+    ensures { λ r. ⌜ Describes (now (table .entry)) issued (now (variables .entry)) (now (queue .entry)) front queued i r ⌝ }
 {
     let at = (front + i) % 32;
     let task = unpack(queue[at]);

@@ -34,7 +34,7 @@ said : (c : tie.After-queued-at Inv-loop μ-loop) {w : Wait} → c .queued-at .r
     let a = l .before .before .args in
     going (a .table .now) (a .queue .now) (a .front) (a .queued) (a .issued) (a .variables .now) (l .loop .i)
     ≡ isReady (readinessOf w)
-said c e = ap isReady (sym (c .queued-at .ensures .1)) ∙ ap (λ (w : Wait). isReady (readinessOf w)) e
+said c e = ap isReady (sym (c .queued-at .ensures .wait-is)) ∙ ap (λ (w : Wait). isReady (readinessOf w)) e
 
 loop-holds : tie.Need-loop-holds Inv-loop μ-loop
 loop-holds c = (omega arith, λ k l. absurd (omega arith))
@@ -54,7 +54,8 @@ returns c =
     let state = idle (a .issued) (a .variables .now) (a .queue .now) (a .front) (a .queued) in
     let go = canGo (recipes (recipeOf (a .table .now))) state in
     let task = entry (a .queue .now) (a .front) in
-    sym (ahead-at go task (a .queued) (l .loop .i) (q .before .loop-test .taken) (l .loop .inv .1) (said q (c .enum-told .given .1)))
+    let found = said q (c .enum-told .given .1) in
+    sym (ahead-at go task (a .queued) (l .loop .i) (q .before .loop-test .taken) (l .loop .inv .1) found)
 
 enum-told-2 : tie.Need-enum-told-2 Inv-loop μ-loop
 enum-told-2 c = search needs

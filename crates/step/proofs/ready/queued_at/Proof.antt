@@ -34,7 +34,7 @@ returns c =
     let a = c .before .before .before .before .args in
     let state = idle (a .issued) (a .variables .now) (a .queue .now) (a .front) (a .queued) in
     let e = c .before .unpack .ensures in
-    (e, c .wait-of .ensures ∙ ap (readyIn (a .table .now) state) e)
+    record { task-is = e; wait-is = c .wait-of .ensures ∙ ap (readyIn (a .table .now) state) e }
 
 pub queued-at-spec : {M : Type 1} → statement M
 queued-at-spec =
