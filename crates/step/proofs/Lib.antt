@@ -3,3 +3,4 @@ pub mod There
 pub mod Parts
 pub mod Acting
 pub mod Links
+pub mod Telling

@@ -1,3 +1,4 @@
 pub mod Ready
 pub mod Linked
 pub mod Moves
+pub mod Events
