@@ -102,7 +102,7 @@ block-number place b =
 row-length : (k n s : ℕ) (z : ℤ) → length (row k n s z) ≡ 8
 row-length k n s z = refl
 
-event-length : (x : Event) → length (eventRow x) ≡ 8
+pub event-length : (x : Event) → length (eventRow x) ≡ 8
 unfolding eventRow
 event-length (spawned t n) = refl
 event-length (taken t) = refl

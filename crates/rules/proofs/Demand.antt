@@ -68,7 +68,7 @@ run-is t r c n l h e f = rw (opens-again t r c h e f) refl
 
 -- ---- logs
 
-log-append : (xs ys : List Event) → logBytes (xs ++ ys) ≡ logBytes xs ++ logBytes ys
+pub log-append : (xs ys : List Event) → logBytes (xs ++ ys) ≡ logBytes xs ++ logBytes ys
 unfolding logBytes
 log-append [] ys = refl
 log-append (x ∷ xs) ys = ap (λ (l : List ℕ). eventRow x ++ l) (log-append xs ys) ∙ sym (append-assoc (eventRow x) (logBytes xs) (logBytes ys))

@@ -1,4 +1,4 @@
--- Lists given by index: tab and joined, their lengths, elements and parts, and what holds of every element.
+-- Lists given by index: tab and joined, their lengths, elements and parts, what holds of every element, and lists filled from the front.
 -- Assumes nothing.
 use Prim.Native.Nat.{ℕ, zero, suc, _+_, _*_, _≤_, _<_}
 use mathlib.Core.Path.{_≡_, refl, sym, ap, _∙_}
@@ -135,17 +135,19 @@ module _ (k : ℕ) (f : ℕ → List ℕ) where
 -- ---- a list filled from its front
 
 -- one element more
-pub tab-more : {A : Type 0} (l : List A) (f : ℕ → A) (i : ℕ) (x : A) → i < length l → take i l ≡ tab i f → x ≡ f i → take (i + 1) (set l i x) ≡ tab (i + 1) f
+pub tab-more : {A : Type 0} (l : List A) (f : ℕ → A) (i : ℕ) (x : A) → i < length l → take i l ≡ tab i f → x ≡ f i
+    → take (i + 1) (set l i x) ≡ tab (i + 1) f
 unfolding tab
 tab-more l f i x h p e = rw (add-one, take-suc-set l i x h, p, e)
 
 pub take-sets : {A : Type 0} (vs l : List A) (i : ℕ) → i + length vs ≤ length l → take (i + length vs) (sets l i vs) ≡ take i l ++ vs
 take-sets vs l i h =
-    rw (sets-eq vs l i h)
-    (take-at (take i l ++ vs) (drop (i + length vs) l) (i + length vs) (length-append (take i l) vs ∙ ap (λ (n : ℕ). n + length vs) (length-take-le i l (omega arith))))
+    let n = length-append (take i l) vs ∙ ap (λ (n : ℕ). n + length vs) (length-take-le i l (omega arith)) in
+    rw (sets-eq vs l i h) (take-at (take i l ++ vs) (drop (i + length vs) l) (i + length vs) n)
 
 -- one part more, of k elements, stored at a
-pub joined-more : (l q : List ℕ) (f : ℕ → List ℕ) (i a k : ℕ) (vs : List ℕ) → length vs ≡ k → a + k ≤ length l → take a l ≡ q ++ joined i f → vs ≡ f i
+pub joined-more : (l q : List ℕ) (f : ℕ → List ℕ) (i a k : ℕ) (vs : List ℕ) → length vs ≡ k → a + k ≤ length l
+    → take a l ≡ q ++ joined i f → vs ≡ f i
     → take (a + k) (sets l a vs) ≡ q ++ joined (i + 1) f
 unfolding joined
 joined-more l q f i a k vs n h p e = rw (← n, add-one) (take-sets vs l a (rw n h) ∙ rw (p, e, append-assoc))

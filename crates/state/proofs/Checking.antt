@@ -49,14 +49,16 @@ module _ (place : ℕ → Bool) (b : List ℕ) where
 
   -- ---- the records from i on decide
 
-  records-step : (i : ℕ) → i < 33 → checkRecords place b (33 - i) i ≡ cond (recordFits place b i) (checkRecords place b (33 - (i + 1)) (i + 1)) (fault 22 i)
+  records-step : (i : ℕ) → i < 33
+      → checkRecords place b (33 - i) i ≡ cond (recordFits place b i) (checkRecords place b (33 - (i + 1)) (i + 1)) (fault 22 i)
   unfolding checkRecords
   records-step i h = let e : 33 - i ≡ suc (33 - (i + 1)) = omega arith in rw e
 
   pub records-stop : (i : ℕ) → i < 33 → recordFits place b i ≡ false → fault 22 i ≡ checkRecords place b (33 - i) i
   records-stop i h e = rw (records-step i h, e)
 
-  pub records-go : (i : ℕ) → i < 33 → recordFits place b i ≡ true → checkRecords place b (33 - (i + 1)) (i + 1) ≡ checkRecords place b (33 - i) i
+  pub records-go : (i : ℕ) → i < 33 → recordFits place b i ≡ true
+      → checkRecords place b (33 - (i + 1)) (i + 1) ≡ checkRecords place b (33 - i) i
   records-go i h e = rw (records-step i h, e)
 
   pub records-end : (i : ℕ) → 33 ≤ i → fine ≡ checkRecords place b (33 - i) i
@@ -74,6 +76,7 @@ module _ (place : ℕ → Bool) (b : List ℕ) where
     unfolding checkBlock
     records-fault h = rw (eq-eqb (length b) 520 l, h)
 
-    pub numbers-decide : checkRecords place b 33 0 ≡ fine → cond (leb (liveIn b) (issuedIn b)) fine (fault 23 0) ≡ checkBlock place b
+    pub numbers-decide : checkRecords place b 33 0 ≡ fine
+        → cond (leb (liveIn b) (issuedIn b)) fine (fault 23 0) ≡ checkBlock place b
     unfolding checkBlock
     numbers-decide h = rw (eq-eqb (length b) 520 l, h)

@@ -28,4 +28,5 @@ module _ (x : ℕ) (h : x < 18446744073709551616) where
   packed-unpacked = rw (bits-signed (x / 4294967296) high) (omega arith)
 
   pub unpacked-held : Held (unpacked x)
-  unpacked-held = record { number-fits = omega arith; place-fits = omega arith; parameter-fits = signed-range (x / 4294967296) high }
+  unpacked-held =
+      record { number-fits = omega arith; place-fits = omega arith; parameter-fits = signed-range (x / 4294967296) high }

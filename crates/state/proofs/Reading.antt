@@ -46,7 +46,8 @@ count-active (suc zero) h = refl
 count-active (suc (suc active)) h = absurd (omega arith)
 
 -- a queue that starts at the ring's first index
-pub straight : (q : List ℕ) (n : ℕ) (f : ℕ → ℕ) → n ≤ 32 → take n q ≡ tab n f → queueOf q 0 n ≡ tab n (λ i. unpacked (f i))
+pub straight : (q : List ℕ) (n : ℕ) (f : ℕ → ℕ) → n ≤ 32
+    → take n q ≡ tab n f → queueOf q 0 n ≡ tab n (λ i. unpacked (f i))
 unfolding queueOf
 straight q n f l e =
     tab-same (entry q 0) (λ i. unpacked (f i)) n
@@ -56,14 +57,18 @@ straight q n f l e =
 
 module _ (b : List ℕ) (bytes : Bytes b) (s : Store) (t : Task) (q : List ℕ) where
   -- the queue's tasks, from record k on
-  queued : (k n : ℕ) (j : ℕ → ℕ) → ((i : ℕ) → k + i ≡ j i) → n ≤ 32 → take n q ≡ tab n (λ i. recordIn b (k + i)) → queueOf q 0 n ≡ tab n (λ i. taskIn b (j i))
+  queued : (k n : ℕ) (j : ℕ → ℕ) → ((i : ℕ) → k + i ≡ j i) → n ≤ 32
+      → take n q ≡ tab n (λ i. recordIn b (k + i)) → queueOf q 0 n ≡ tab n (λ i. taskIn b (j i))
   queued k n j m l e =
       straight q n (λ i. recordIn b (k + i)) l e
-      ∙ tab-same (λ i. unpacked (recordIn b (k + i))) (λ i. taskIn b (j i)) n (λ i h. rw (m i) (record-task b bytes (j i)))
+      ∙ tab-same (λ i. unpacked (recordIn b (k + i))) (λ i. taskIn b (j i)) n
+      (λ i h. rw (m i) (record-task b bytes (j i)))
 
-  said : (live active : ℕ) → live ≤ 32 → active ≤ cond (eqb live 0) 0 1 → take (live - active) q ≡ tab (live - active) (λ i. recordIn b (1 + active + i))
+  said : (live active : ℕ) → live ≤ 32 → active ≤ cond (eqb live 0) 0 1
+      → take (live - active) q ≡ tab (live - active) (λ i. recordIn b (1 + active + i))
       → taskOf t ≡ unpacked (recordIn b 1)
-      → record { store = s; active = activeOf (eqb active 1) t; queue = queueOf q 0 (live - active) } ≡ stateOf s active (tab live (λ i. taskIn b (i + 1)))
+      → record { store = s; active = activeOf (eqb active 1) t; queue = queueOf q 0 (live - active) }
+      ≡ stateOf s active (tab live (λ i. taskIn b (i + 1)))
   said live zero l h e g =
       let n : live - 0 ≡ live = omega arith in
       rw (n, queued 1 live (λ i. i + 1) (λ i. omega arith) l (rw n at e))
@@ -71,15 +76,22 @@ module _ (b : List ℕ) (bytes : Bytes b) (s : Store) (t : Task) (q : List ℕ) 
   said (suc live) (suc zero) l h e g =
       let n : suc live - 1 ≡ live = omega arith in
       let rest = tab live (λ i. taskIn b (suc i + 1)) in
-      rw (n, queued 2 live (λ i. suc i + 1) (λ i. omega arith) (omega arith) (rw n at e), tab-first (λ i. taskIn b (i + 1)) live)
+      let q = queued 2 live (λ i. suc i + 1) (λ i. omega arith) (omega arith) (rw n at e) in
+      rw (n, q, tab-first (λ i. taskIn b (i + 1)) live)
       (ap (λ (x : R.Task ℕ). stateOf s 1 (x ∷ rest)) (g ∙ record-task b bytes 1))
-  said (suc live) (suc (suc active)) l h e g = absurd (let f : suc (suc active) ≤ 1 = rw (eqb·suc-zero live) at h in omega arith)
+  said (suc live) (suc (suc active)) l h e g = absurd (omega (arith, active-below (suc live) (suc (suc active)) h .0))
 
 pub reads : (b : List ℕ) → Bytes b → HeadFit b → (issued live active : ℕ) (vs : List ℤ) (t : Task) (q : List ℕ)
     → issued ≡ issuedIn b → live ≡ liveIn b → active ≡ activeIn b → vs ≡ variablesIn b
     → take (live - active) q ≡ tab (live - active) (λ i. recordIn b (1 + active + i)) → taskOf t ≡ unpacked (recordIn b 1)
-    → record { store = record { issued = issued; variables = vs }; active = activeOf (eqb active 1) t; queue = queueOf q 0 (live - active) } ≡ readBlock b
+    → record {
+      store = record { issued = issued; variables = vs };
+      active = activeOf (eqb active 1) t;
+      queue = queueOf q 0 (live - active);
+    }
+    ≡ readBlock b
 unfolding readBlock
 reads b bytes h issued live active vs t q i l a v e g =
-    said b bytes (record { issued = issued; variables = vs }) t q live active (rw l (h .few)) (rw (l, a) (h .active)) e g
+    said b bytes (record { issued = issued; variables = vs }) t q live active
+    (rw l (h .few)) (rw (l, a) (h .active)) e g
     ∙ rw (i, l, a, v)

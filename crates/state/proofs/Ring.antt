@@ -23,11 +23,13 @@ front-any q f n =
     (λ i h. let e : ring (f % 32) i ≡ ring f i = omega arith in ap (λ (k : ℕ). unpacked (getD q k 0)) e)
 
 -- stored at the back
-pub joins : (q : List ℕ) (f n x : ℕ) → length q ≡ 32 → n < 32 → queueOf (set q (ring f n) x) f (suc n) ≡ queueOf q f n ++ unpacked x ∷ []
+pub joins : (q : List ℕ) (f n x : ℕ) → length q ≡ 32 → n < 32
+    → queueOf (set q (ring f n) x) f (suc n) ≡ queueOf q f n ++ unpacked x ∷ []
 unfolding queueOf tab
 joins q f n x l h =
     rw (
-      tab-same (entry (set q (ring f n) x) f) (entry q f) n (λ i g. ap unpacked (getD-set-other q (ring f n) (ring f i) x 0 (omega arith))),
+      tab-same (entry (set q (ring f n) x) f) (entry q f) n
+          (λ i g. ap unpacked (getD-set-other q (ring f n) (ring f i) x 0 (omega arith))),
       getD-set-same q (ring f n) x 0 (omega arith),
     )
 
@@ -46,7 +48,8 @@ parts q f n =
           (λ i h. let e : ring f (suc i) ≡ ring (suc f) i = omega arith in ap (λ (k : ℕ). unpacked (getD q k 0)) e),
     )
 
-pub front-rest : (q : List ℕ) (f n : ℕ) → f < 32 → 0 < n → queueOf q f n ≡ unpacked (getD q f 0) ∷ queueOf q ((f + 1) % 32) (n - 1)
+pub front-rest : (q : List ℕ) (f n : ℕ) → f < 32 → 0 < n
+    → queueOf q f n ≡ unpacked (getD q f 0) ∷ queueOf q ((f + 1) % 32) (n - 1)
 front-rest q f zero h g = absurd (omega arith)
 front-rest q f (suc n) h g =
     let e : suc n - 1 ≡ n = omega arith in
@@ -54,7 +57,8 @@ front-rest q f (suc n) h g =
     rw (e, front-any q (f + 1) n, add-one f) (rw k at (parts q f n))
 
 -- the front turned to the back
-pub one-turn : (q : List ℕ) (f n : ℕ) → length q ≡ 32 → n ≤ 32 → queueOf (set q (ring f n) (getD q (f % 32) 0)) (suc f) n ≡ turned 1 (queueOf q f n)
+pub one-turn : (q : List ℕ) (f n : ℕ) → length q ≡ 32 → n ≤ 32
+    → queueOf (set q (ring f n) (getD q (f % 32) 0)) (suc f) n ≡ turned 1 (queueOf q f n)
 one-turn q f zero l h = unfold queueOf tab in refl
 one-turn q f (suc n) l h =
     let e : ring f (suc n) ≡ ring (suc f) n = omega arith in

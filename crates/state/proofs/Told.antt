@@ -23,15 +23,19 @@ use Rattle.state.proofs.Task as task
 use Rattle.state.proofs.State as state
 
 -- what holds of every value of a field's type, and of what stands behind the end of an array of them, holds at every index
-module _ (F : Field) (P : F .Value → Type 0) (d : F .Value) (default : P d) (told : (x : F .Value) (u : Val) → shadow (F .row .own (F .into x) (u ∷ [])) → P x) where
-  at-each : (xs : List (F .Value)) (us : List Val) → shadow (each (F .row .Denot) (F .row .own) (map (F .into) xs) us) → (i : ℕ) → P (getD xs i d)
-  at-each [] us h i = default
-  at-each (x ∷ xs) [] h i = absurd h
-  at-each (x ∷ xs) (u ∷ us) h zero = told x u (h .0)
-  at-each (x ∷ xs) (u ∷ us) h (suc i) = at-each xs us (h .1) i
+at-each : (F : Field) (P : F .Value → Type 0) (d : F .Value) → P d
+    → ((x : F .Value) (u : Val) → shadow (F .row .own (F .into x) (u ∷ [])) → P x)
+    → (xs : List (F .Value)) (us : List Val) → shadow (each (F .row .Denot) (F .row .own) (map (F .into) xs) us)
+    → (i : ℕ) → P (getD xs i d)
+at-each F P d p f [] us h i = p
+at-each F P d p f (x ∷ xs) [] h i = absurd h
+at-each F P d p f (x ∷ xs) (u ∷ us) h zero = f x u (h .0)
+at-each F P d p f (x ∷ xs) (u ∷ us) h (suc i) = at-each F P d p f xs us (h .1) i
 
 pub held : (t : Task) (vs : List Val) → Is (row task.the-type) t vs → Held (taskOf t)
-held t vs h = record { number-fits = h .1 .1 .0 .1; place-fits = h .1 .1 .1 .0 .1; parameter-fits = mag-range (t .parameter) (h .1 .1 .1 .1 .0 .1) }
+held t vs h =
+    let z = mag-range (t .parameter) (h .1 .1 .1 .1 .0 .1) in
+    record { number-fits = h .1 .1 .0 .1; place-fits = h .1 .1 .1 .0 .1; parameter-fits = z }
 
 module _ (s : State) (vs : List Val) (h : Is (row state.the-type) s vs) where
   pub issued-fits : s .issued < 65536
@@ -44,10 +48,14 @@ module _ (s : State) (vs : List Val) (h : Is (row state.the-type) s vs) where
   queue-length = sym (length-map (s .queue) _) ∙ h .1 .1 .1 .1 .1 .1 .1 .0 .1 .0 .1
 
   pub queued-fits : (i : ℕ) → getD (s .queue) i 0 < 18446744073709551616
-  queued-fits = at-each u64-field (λ x. x < 18446744073709551616) 0 (omega arith) (λ x u g. g .1) (s .queue) _ (h .1 .1 .1 .1 .1 .1 .1 .0 .1 .1)
+  queued-fits =
+      at-each u64-field (λ x. x < 18446744073709551616) 0 (omega arith) (λ x u g. g .1) (s .queue) _
+      (h .1 .1 .1 .1 .1 .1 .1 .0 .1 .1)
 
   pub variables-length : length (s .variables) ≡ 64
   variables-length = sym (length-map (s .variables) _) ∙ h .1 .1 .1 .1 .1 .1 .1 .1 .0 .1 .0 .1
 
   pub variable-fits : (j : ℕ) → inRange (getD (s .variables) j (pos 0)) ≡ true
-  variable-fits = at-each i32-field (λ z. inRange z ≡ true) (pos 0) refl (λ z u g. mag-range z (g .1)) (s .variables) _ (h .1 .1 .1 .1 .1 .1 .1 .1 .0 .1 .1)
+  variable-fits =
+      at-each i32-field (λ z. inRange z ≡ true) (pos 0) refl (λ z u g. mag-range z (g .1)) (s .variables) _
+      (h .1 .1 .1 .1 .1 .1 .1 .1 .0 .1 .1)

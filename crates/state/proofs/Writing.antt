@@ -7,10 +7,9 @@ use mathlib.Core.List.{List, _++_, append-assoc, append-nil}
 use native.Mathlib.Omega.{arith}
 use native.Mathlib.Numerals.{one-add}
 use native.Mathlib.Nat.{zero-add}
-use lib.IntN.{pos}
 use lib.ListN.{length, getD, take, drop, replicate, List·getD-eq-default}
 use lib.Seq.{sets, sets-eq, take-at, length-take-le}
-use Rattle.rules.specs.Fields.{bits, bytes4}
+use Rattle.rules.specs.Fields.{bits}
 use Rattle.rules.specs.State as R
 use Rattle.rules.specs.State.{liveTasks, joined, isActive, headRow, taskRow, noTask, writeBlock}
 use Rattle.rules.proofs.Lists.{length-tab, getD-tab, take-sets, joined-same, joined-add}
@@ -19,7 +18,7 @@ use Rattle.rules.proofs.Blocks.Write.{Held}
 use Rattle.state.specs.declared.Task.{Task}
 use Rattle.state.specs.declared.State.{State}
 use Rattle.state.specs.View.{taskOf, packed, unpacked, ring, entry, queueOf, activeOf, view, count, Fine}
-use Rattle.state.specs.Block.{bytes8, headOf}
+use Rattle.state.specs.Block.{bytes8, headOf, ringRows, valueRows}
 use Rattle.state.proofs.Packed.{packed-unpacked, unpacked-held}
 
 -- ---- the 8 bytes of a task are those of its number
@@ -58,7 +57,8 @@ live-length : (on : Bool) (t : Task) (q : List (R.Task ℕ)) → length (live on
 live-length true t q = sym (one-add (length q))
 live-length false t q = sym (zero-add (length q))
 
-live-queued : (on : Bool) (t : Task) (q : List (R.Task ℕ)) (i : ℕ) → getD (live on t q) (count on + i) noTask ≡ getD q i noTask
+live-queued : (on : Bool) (t : Task) (q : List (R.Task ℕ)) (i : ℕ)
+    → getD (live on t q) (count on + i) noTask ≡ getD q i noTask
 live-queued true t q i = rw (one-add i)
 live-queued false t q i = rw (zero-add i)
 
@@ -73,7 +73,8 @@ active-count true t = refl
 active-count false t = refl
 
 -- what stands in front of the queue, if x is stored at record 1
-front-rows : (on : Bool) (h x : List ℕ) → length h ≡ 520 → length x ≡ 8 → take (8 * (1 + count on)) (sets h 8 x) ≡ take 8 h ++ joined (count on) (λ i. x)
+front-rows : (on : Bool) (h x : List ℕ) → length h ≡ 520 → length x ≡ 8
+    → take (8 * (1 + count on)) (sets h 8 x) ≡ take 8 h ++ joined (count on) (λ i. x)
 unfolding joined
 front-rows true h x l n = let e : 16 ≡ 8 + length x = omega arith in rw e (take-sets x h 8 (omega arith))
 front-rows false h x l n =
@@ -82,8 +83,11 @@ front-rows false h x l n =
 
 -- ---- the block
 
-module _ (s : State) (fine : Fine s) (held : Held (taskOf (s .current))) (fits : (i : ℕ) → getD (s .queue) i 0 < 18446744073709551616) where
-  -- the number of active tasks, and of queued ones; a row of the queue
+abbrev Fit : List ℕ → Type 0
+Fit q = (i : ℕ) → getD q i 0 < 18446744073709551616
+
+module _ (s : State) (fine : Fine s) (held : Held (taskOf (s .current))) (fits : Fit (s .queue)) where
+  -- the number of active tasks, and of queued ones
   abbrev k : ℕ
   k = count (s .active)
 
@@ -93,28 +97,34 @@ module _ (s : State) (fine : Fine s) (held : Held (taskOf (s .current))) (fits :
   abbrev tasks : List (R.Task ℕ)
   tasks = live (s .active) (s .current) (queueOf (s .queue) (s .front) (s .queued))
 
-  abbrev queue-row : ℕ → List ℕ
-  queue-row i = bytes8 (getD (s .queue) (ring (s .front) i) 0)
+  -- the bytes of the queue, and of the unused records
+  abbrev queue-rows : List ℕ
+  queue-rows = ringRows (s .queue) (s .front) n
+
+  abbrev unused-rows : ℕ → List ℕ
+  unused-rows m = ringRows (replicate 32 0) 0 m
 
   tasks-length : length tasks ≡ k + n
   unfolding queueOf
-  tasks-length = live-length (s .active) (s .current) _ ∙ ap (λ (m : ℕ). k + m) (length-tab (entry (s .queue) (s .front)) n)
+  tasks-length =
+      live-length (s .active) (s .current) _ ∙ ap (λ (m : ℕ). k + m) (length-tab (entry (s .queue) (s .front)) n)
 
-  queue-rows : joined n (λ i. taskRow (getD tasks (k + i) noTask)) ≡ joined n queue-row
+  queue-is : joined n (λ i. taskRow (getD tasks (k + i) noTask)) ≡ queue-rows
   unfolding queueOf
-  queue-rows =
-      joined-same _ queue-row n
+  queue-is =
+      joined-same _ _ n
       (λ i h.
-      ap taskRow (live-queued (s .active) (s .current) _ i ∙ getD-tab (entry (s .queue) (s .front)) n i noTask h) ∙ row-unpacked _ (fits (ring (s .front) i)))
+      let e = live-queued (s .active) (s .current) _ i ∙ getD-tab (entry (s .queue) (s .front)) n i noTask h in
+      ap taskRow e ∙ row-unpacked _ (fits (ring (s .front) i)))
 
-  unused-rows : (m : ℕ) → joined m (λ i. taskRow (getD tasks (k + n + i) noTask)) ≡ joined m (λ i. bytes8 (getD (replicate 32 0) (ring 0 i) 0))
+  unused-are : (m : ℕ) → joined m (λ i. taskRow (getD tasks (k + n + i) noTask)) ≡ unused-rows m
   unfolding taskRow bytes8
-  unused-rows m =
+  unused-are m =
       joined-same _ _ m
       (λ i h. rw (List·getD-eq-default tasks noTask {n = k + n + i} (omega (arith, tasks-length)), zero-at 32 (ring 0 i)))
 
   task-rows : joined 32 (λ i. taskRow (getD tasks i noTask))
-      ≡ joined k (λ i. bytes8 (packed (taskOf (s .current)))) ++ joined n queue-row ++ joined (33 - (1 + k + n)) (λ i. bytes8 (getD (replicate 32 0) (ring 0 i) 0))
+      ≡ joined k (λ i. bytes8 (packed (taskOf (s .current)))) ++ queue-rows ++ unused-rows (33 - (1 + k + n))
   task-rows =
       let f : ℕ → List ℕ = λ i. taskRow (getD tasks i noTask) in
       let few = fine .few in
@@ -125,21 +135,21 @@ module _ (s : State) (fine : Fine s) (held : Held (taskOf (s .current))) (fits :
         joined-add f (k + n) m,
         joined-add f k n,
         live-active (s .active) (s .current) (queueOf (s .queue) (s .front) n) held,
-        queue-rows,
-        unused-rows m,
+        queue-is,
+        unused-are m,
       )
 
   head-row : headRow (view s) ≡ headOf (s .issued) (k + n) k
   unfolding headRow headOf
   head-row = rw (tasks-length, active-count (s .active) (s .current))
 
-  -- h with record 0 written, l with the active task too, r with the queue, p with the unused records, b with the variables
+  -- h has record 0 written, l the active task too, r the queue, p the unused records, b the variables
   pub written : (a d x : ℕ) (h l r p b : List ℕ) → a ≡ d → d ≡ k → x ≡ packed (taskOf (s .current)) → length h ≡ 520
       → take 8 h ≡ headOf (s .issued) (1 + a + n - 1) d
       → l ≡ sets h 8 (bytes8 x)
-      → take (8 * (1 + a + n)) r ≡ take (8 * (1 + a)) l ++ joined n queue-row
-      → take (8 * (1 + a + n + (33 - (1 + a + n)))) p ≡ take (8 * (1 + a + n)) r ++ joined (33 - (1 + a + n)) (λ i. bytes8 (getD (replicate 32 0) (ring 0 i) 0))
-      → b ≡ take 264 p ++ joined 64 (λ j. bytes4 (bits (getD (s .variables) j (pos 0))))
+      → take (8 * (1 + a + n)) r ≡ take (8 * (1 + a)) l ++ queue-rows
+      → take (8 * (1 + a + n + (33 - (1 + a + n)))) p ≡ take (8 * (1 + a + n)) r ++ unused-rows (33 - (1 + a + n))
+      → b ≡ take 264 p ++ valueRows (s .variables)
       → b ≡ writeBlock (view s)
   unfolding writeBlock bytes8
   written a d x h l r p b ea ed ex sized eh el er ep eb =

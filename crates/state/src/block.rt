@@ -15,16 +15,14 @@ ghost use mathlib.Core.Bool.{true, cond};
 ghost use mathlib.Core.List.{_++_};
 ghost use Prim.Native.Nat.{_+_, _-_, _*_, _≤_, _<_};
 ghost use lib.Dec.{eqb, leb};
-ghost use lib.IntN.{pos};
-ghost use lib.ListN.{length, getD, take};
+ghost use lib.ListN.{length, take};
 ghost use lib.Seq.{sets};
-ghost use Rattle.rules.specs.Fields.{signed, bits, word, bytes4};
 ghost use Rattle.rules.specs.Table.{fine, fault, check, recipeOf};
 ghost use Rattle.rules.specs.Places.{isPlace};
-ghost use Rattle.rules.specs.State.{issuedIn, liveIn, numberIn, unlike, headFits, taskFits, unusedFits, recordFits, checkRecords, checkBlock, variablesIn, readBlock, writeBlock, tab, joined};
+ghost use Rattle.rules.specs.State.{issuedIn, liveIn, numberIn, unlike, headFits, taskFits, unusedFits, recordFits, checkRecords, checkBlock, variablesIn, readBlock, writeBlock, tab};
 ghost use Rattle.table.specs.Check.{verdictOf};
-ghost use Rattle.state.specs.View.{ring, count, view, Fine};
-ghost use Rattle.state.specs.Block.{headOf, long, bytes8, recordIn};
+ghost use Rattle.state.specs.View.{count, view, Fine};
+ghost use Rattle.state.specs.Block.{long, recordIn, bytes8, headOf, ringRows, valueRows};
 
 // ---- the check
 
@@ -267,7 +265,7 @@ fn put_head(b: &mut [u8], issued: u16, live: u8, taken: u8)
 // n records from record `first` on: those of a ring from the index `front` on.
 fn put_records(b: &mut [u8], records: [u64; 32], front: usize, n: usize, first: usize)
     requires { ⌜ (length (now b) ≡ 520) × (front < 32) × (first + n ≤ 33) ⌝ }
-    ensures { λ _. ⌜ take (8 * (first + n)) (now (b .exit)) ≡ take (8 * first) (now (b .entry)) ++ joined n (λ i. bytes8 (getD records (ring front i) 0)) ⌝ }
+    ensures { λ _. ⌜ take (8 * (first + n)) (now (b .exit)) ≡ take (8 * first) (now (b .entry)) ++ ringRows records front n ⌝ }
 {
     let mut i: usize = 0;
     while i < n {
@@ -280,7 +278,7 @@ fn put_records(b: &mut [u8], records: [u64; 32], front: usize, n: usize, first: 
 // Records 33 to 64.
 fn put_variables(b: &mut [u8], variables: [i32; 64])
     requires { ⌜ length (now b) ≡ 520 ⌝ }
-    ensures { λ _. ⌜ now (b .exit) ≡ take 264 (now (b .entry)) ++ joined 64 (λ j. bytes4 (bits (getD variables j (pos 0)))) ⌝ }
+    ensures { λ _. ⌜ now (b .exit) ≡ take 264 (now (b .entry)) ++ valueRows variables ⌝ }
 {
     let mut j: usize = 0;
     while j < 64 {

@@ -15,7 +15,8 @@ pub struct Task {
     pub parameter: i32,
 }
 
-// `current` is the active task where `active` is true. The queue is a ring of packed tasks: `queued` of them, the front at the index `front`.
+// `current` is the active task where `active` is true.
+// The queue is a ring of packed tasks: `queued` of them, the front at the index `front`.
 pub struct State {
     pub issued: u16,
     pub active: bool,

@@ -13,10 +13,10 @@ use Rattle.rules.specs.Places.{Point, stop, tests}
 use Rattle.rules.specs.Standing.{pointAt}
 use Rattle.rules.specs.State.{Task}
 use Rattle.step.specs.declared.moves.Move.the-variants.{Goes, Sets, Spawns, Gives, Waits, Ends}
-use Rattle.step.specs.Moves.{Moves, bodyOf}
+use Rattle.step.specs.Moves.{Moves, intoBody}
 
 test-point : (p : List ℕ) (i k : ℕ) → (kindOf p ≡ 4) ⊎ (kindOf p ≡ 5)
-    → pointAt p i k ≡ tests (exprOf (inner p)) (bodyOf p i k) k
+    → pointAt p i k ≡ tests (exprOf (inner p)) (intoBody p i k) k
 unfolding pointAt
 test-point p i k h = ⊎-elim (λ g. rw g) (λ g. rw g) h
 
@@ -51,6 +51,6 @@ module _ (begin : ℕ → ℕ) (vs : List ℤ) (t : Task ℕ) where
       unfolding pointAt
       spawn-moves s h w e = record { acts = λ issued q. rw (h, e, is); named = w }
 
-      pub test-moves : (j : ℕ) → (kindOf p ≡ 4) ⊎ (kindOf p ≡ 5) → j ≡ cond (truth z) (bodyOf p i k) k
+      pub test-moves : (j : ℕ) → (kindOf p ≡ 4) ⊎ (kindOf p ≡ 5) → j ≡ cond (truth z) (intoBody p i k) k
           → Moves begin there vs t (Goes j)
       test-moves j h e = record { acts = λ issued q. rw (test-point p i k h, e, is); named = tt }

@@ -12,8 +12,8 @@ use lib.Dec.{eqb, leb}
 use lib.IntN.{ℤ, pos, negsuc}
 use lib.ListN.{length}
 use lib.Signed.{ltZ}
-use Rattle.rules.specs.Fields.{bits}
 use borrow.Author.Tests.{lt-ltb, le-leb, lt-leb, eq-eqb, ne-eqb, ltb-true}
+use Rattle.rules.specs.Fields.{bits}
 use Rattle.rules.specs.Recipe.{Recipe}
 use Rattle.rules.specs.State.{Task, tab}
 use Rattle.rules.specs.Scheduler.{count, isLive}

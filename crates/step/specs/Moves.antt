@@ -37,13 +37,13 @@ Named (Gives k) = Unit {0}
 Named (Waits z) = Unit {0}
 Named Ends = Unit {0}
 
-abbrev pub storeOf : (issued : ℕ) → (variables : List ℤ) → Store
-storeOf issued variables = record { issued = issued; variables = variables }
+abbrev pub storeWith : (issued : ℕ) → (variables : List ℤ) → Store
+storeWith issued variables = record { issued = issued; variables = variables }
 
 -- the move that the task t makes at the point x, with these variables, whatever number is issued and whoever is queued
 pub record Moves (begin : ℕ → ℕ) (x : Point ℕ) (variables : List ℤ) (t : Task ℕ) (m : Move) : Type 0 where
   pub acts : (issued : ℕ) (q : List (Task ℕ))
-      → actAt begin limits x (storeOf issued variables) q t ≡ actOf m (storeOf issued variables) q t
+      → actAt begin limits x (storeWith issued variables) q t ≡ actOf m (storeWith issued variables) q t
   pub named : Named m
 
 -- in a recipe, where t stands
@@ -71,5 +71,5 @@ MovesAt starts p i follow variables t m =
     (begin : ℕ → ℕ) → Begins begin starts p → Moves begin (pointAt p i follow) variables t m
 
 -- where the body of an if or a while leads: a body without statements counts as run through
-abbrev pub bodyOf : (part : List ℕ) → (i follow : ℕ) → ℕ
-bodyOf p i follow = bodyPlace p i (cond (eqb (kindOf p) 4) follow i)
+abbrev pub intoBody : (part : List ℕ) → (i follow : ℕ) → ℕ
+intoBody p i follow = bodyPlace p i (cond (eqb (kindOf p) 4) follow i)

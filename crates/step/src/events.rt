@@ -57,7 +57,7 @@ pub fn outcome_of(m: Move, number: u16, queued: usize, issued: u16) -> Outcome
     }
 }
 
-// A log record.
+// A log record by its fields.
 fn put_row(log: &mut [u8], at: usize, kind: u8, valve: u8, task: u16, word: u32)
     requires { ⌜ at + 8 ≤ length (now log) ⌝ }
     ensures { λ _. ⌜ now (log .exit) ≡ sets (now (log .entry)) at (rowOf kind valve task word) ⌝ }
@@ -68,6 +68,7 @@ fn put_row(log: &mut [u8], at: usize, kind: u8, valve: u8, task: u16, word: u32)
     put_word(log, at + 4, word);
 }
 
+// The log record of an event, from the byte `at` on.
 pub fn put_event(log: &mut [u8], at: usize, e: Event)
     requires { ⌜ at + 8 ≤ length (now log) ⌝ }
     ensures { λ _. ⌜ now (log .exit) ≡ sets (now (log .entry)) at (eventRow (eventOf e)) ⌝ }

@@ -16,7 +16,7 @@ ghost use Rattle.rules.specs.Table.{kindOf, spanOf, valueOf, inner, exprOf, fin
 ghost use Rattle.state.specs.View.{taskOf};
 ghost use Rattle.step.specs.Ready.{Placed};
 ghost use Rattle.step.specs.Linked.{Linked};
-ghost use Rattle.step.specs.Moves.{MovesIn, Part, Enclosing, MovesAt, bodyOf};
+ghost use Rattle.step.specs.Moves.{MovesIn, Part, Enclosing, MovesAt, intoBody};
 
 // On to a place; a variable's name, its new value and the next place; the name of the variable for the new task's number,
 // the place where that task starts, its argument and the next place; to the back of the queue, at the next place; to the
@@ -41,7 +41,7 @@ fn value_of(part: &[u8], variables: &[i32; 64], parameter: i32) -> i32
 // Where the body of an if or a while leads.
 fn body_of(part: &[u8], place: usize, follow: u16) -> u16
     requires { ⌜ Enclosing (now part) × (place + 1 + spanOf (now part) ≤ 4096) ⌝ }
-    ensures { λ r. ⌜ r ≡ bodyOf (now (part .entry)) place follow ⌝ }
+    ensures { λ r. ⌜ r ≡ intoBody (now (part .entry)) place follow ⌝ }
 {
     let span = span_of(from(part, 8));
     let first = place + 2 + span;
@@ -57,7 +57,7 @@ fn body_of(part: &[u8], place: usize, follow: u16) -> u16
 // Where the test of an if or a while leads, by its value.
 fn branch(part: &[u8], place: usize, follow: u16, v: i32) -> u16
     requires { ⌜ Enclosing (now part) × (place + 1 + spanOf (now part) ≤ 4096) ⌝ }
-    ensures { λ r. ⌜ r ≡ cond (truth v) (bodyOf (now (part .entry)) place follow) follow ⌝ }
+    ensures { λ r. ⌜ r ≡ cond (truth v) (intoBody (now (part .entry)) place follow) follow ⌝ }
 {
     if v == 0 {
         return follow;
@@ -101,6 +101,7 @@ fn statement(
         }
         7 => Move::Gives(follow),
         8 => Move::Waits(variable(name, variables, t.parameter)),
+        // An if or a while.
         _ => {
             let v = value_of(part, variables, t.parameter);
             Move::Goes(branch(part, place, follow, v))

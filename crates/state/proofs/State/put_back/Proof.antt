@@ -1,3 +1,4 @@
+use Rattle.rules.proofs.Blocks.Write.{Held}
 use Prim.Native.Nat.{_+_, _≤_}
 use native.Mathlib.Omega.{arith}
 use Rattle.state.specs.View.{goTo, taskOf}
@@ -23,17 +24,17 @@ add-self : tie.Need-add-self
 add-self c = search needs
 
 returns : tie.Need-returns
-returns c = let o = c .before .before in
+returns c =
+    let o = c .before .before in
     let s = o .args .t1 in
     let g = o .good .0 in
     let h = current-held s _ g in
     let few : s .queued + 1 ≤ 32 = rw (o .pre .1) at (o .pre .0 .few) in
-    let t = goTo (taskOf (s .current)) (o .args .place) in (
-      rw (
-        o .pre .1,
-        joins-task (s .queue) (s .front) (s .queued) (c .pack .result) t (queue-length s _ g) (omega arith)
-            (record { number-fits = h .number-fits; place-fits = o .fits .place .fits; parameter-fits = h .parameter-fits }) (c .pack .ensures),
-      ),
+    let t = goTo (taskOf (s .current)) (o .args .place) in
+    let p = o .fits .place .fits in
+    let fits : Held t = record { number-fits = h .number-fits; place-fits = p; parameter-fits = h .parameter-fits } in
+    let n = queue-length s _ g in (
+      rw (o .pre .1, joins-task (s .queue) (s .front) (s .queued) (c .pack .result) t n (omega arith) fits (c .pack .ensures)),
       record { front-fits = o .pre .0 .front-fits; few = omega arith },
     )
 

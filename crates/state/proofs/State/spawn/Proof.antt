@@ -1,3 +1,4 @@
+use Rattle.rules.proofs.Blocks.Write.{Held}
 use mathlib.Core.Path.{ap, _∙_}
 use Prim.Native.Nat.{ℕ, _+_, _≤_}
 use native.Mathlib.Omega.{arith}
@@ -32,17 +33,18 @@ add-self : tie.Need-add-self
 add-self c = search needs
 
 returns : tie.Need-returns
-returns c = let o = c .before in
+returns c =
+    let o = c .before in
     let s = o .args .t1 in
     let z = o .args .argument in
     let few : s .queued + 1 + count (s .active) ≤ 32 = rw (o .pre .1) (omega arith) in
-    let t : ℤ → R.Task ℕ = λ v. record { number = s .issued + 1; place = o .args .place; parameter = v } in (
-      rw (
-        joins-task (s .queue) (s .front) (s .queued) (c .pack .result) (t z) (queue-length s _ (o .good .0)) (omega arith)
-            (record { number-fits = omega arith; place-fits = o .fits .place .fits; parameter-fits = mag-range z (o .fits .argument .sfits) })
-            (c .pack .ensures ∙ ap (λ v. packed (t v)) (toZ-ofZ (o .fits .argument))),
-        add-one,
-      ),
+    let t : ℤ → R.Task ℕ = λ v. record { number = s .issued + 1; place = o .args .place; parameter = v } in
+    let p = o .fits .place .fits in
+    let v = mag-range z (o .fits .argument .sfits) in
+    let fits : Held (t z) = record { number-fits = omega arith; place-fits = p; parameter-fits = v } in
+    let e = c .pack .ensures ∙ ap (λ v. packed (t v)) (toZ-ofZ (o .fits .argument)) in
+    let n = queue-length s _ (o .good .0) in (
+      rw (joins-task (s .queue) (s .front) (s .queued) (c .pack .result) (t z) n (omega arith) fits e, add-one),
       record { front-fits = o .pre .0 .front-fits; few = few },
     )
 

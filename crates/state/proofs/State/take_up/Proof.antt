@@ -28,11 +28,13 @@ sub-self : tie.Need-sub-self
 sub-self c = search needs
 
 returns : tie.Need-returns
-returns c = let o = c .before .before in
+returns c =
+    let o = c .before .before in
     let s = o .args .t1 in
     let e : taskOf (c .unpack .result) ≡ unpacked (getD (s .queue) (s .front) 0) = c .unpack .ensures in
     let rest = queueOf (s .queue) ((s .front + 1) % 32) (s .queued - 1) in (
-      rw (front-rest (s .queue) (s .front) (s .queued) (o .pre .0 .front-fits) (o .pre .2)) (ap (λ (t : R.Task ℕ). takeUp (t ∷ rest) (o .args .place) (view s)) e),
+      rw (front-rest (s .queue) (s .front) (s .queued) (o .pre .0 .front-fits) (o .pre .2))
+          (ap (λ (t : R.Task ℕ). takeUp (t ∷ rest) (o .args .place) (view s)) e),
       record { front-fits = omega arith; few = omega arith },
     )
 

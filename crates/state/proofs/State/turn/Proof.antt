@@ -42,34 +42,33 @@ record Turned (n : ℕ) (s₀ s : State) (i : ℕ) : Type 0 where
   sized : length (s .queue) ≡ 32
   turns : queueOf (s .queue) (s₀ .front + i) (s₀ .queued) ≡ turned i (queueOf (s₀ .queue) (s₀ .front) (s₀ .queued))
 
+abbrev Done : State → ℕ → State → Type 0
+Done s n s₀ = (view s ≡ turn n (view s₀)) × Fine s
+
 module _ {n : ℕ} {s₀ s : State} {i : ℕ} (t : Turned n s₀ s i) (fine : Fine s₀) where
-  more : i < n → Turned n s₀ (queues s (set (s .queue) ((ring (s₀ .front) i + s₀ .queued) % 32) (getD (s .queue) (ring (s₀ .front) i) 0))) (i + 1)
+  abbrev next-queue : List ℕ
+  next-queue = set (s .queue) ((ring (s₀ .front) i + s₀ .queued) % 32) (getD (s .queue) (ring (s₀ .front) i) 0)
+
+  more : i < n → Turned n s₀ (queues s next-queue) (i + 1)
   more h =
       let few = fine .few in
       let to : (ring (s₀ .front) i + s₀ .queued) % 32 ≡ ring (s₀ .front + i) (s₀ .queued) = omega arith in
       let next : s₀ .front + (i + 1) ≡ suc (s₀ .front + i) = omega arith in
+      let turn = one-turn (s .queue) (s₀ .front + i) (s₀ .queued) (t .sized) (omega arith) in
       record {
         within = omega arith;
-        kept = ap (λ (u : State). queues u (set (s .queue) ((ring (s₀ .front) i + s₀ .queued) % 32) (getD (s .queue) (ring (s₀ .front) i) 0))) (t .kept);
+        kept = ap (λ (u : State). queues u next-queue) (t .kept);
         sized = length-set (s .queue) _ _ ∙ t .sized;
-        turns = rw (
-          to,
-          next,
-          one-turn (s .queue) (s₀ .front + i) (s₀ .queued) (t .sized) (omega arith),
-          t .turns,
-          add-one,
-        )
-            (sym (turned-more i (queueOf (s₀ .queue) (s₀ .front) (s₀ .queued))));
+        turns = rw (to, next, turn, t .turns, add-one) (sym (turned-more i (queueOf (s₀ .queue) (s₀ .front) (s₀ .queued))));
       }
 
   -- all n of them, and the front moved
-  over : n ≤ i → (view (fronts s (ring (s₀ .front) n)) ≡ turn n (view s₀)) × Fine (fronts s (ring (s₀ .front) n))
+  over : n ≤ i → Done (fronts s (ring (s₀ .front) n)) n s₀
   over h =
       let w = t .within in
       let e : i ≡ n = omega arith in
-      let q : queueOf (s .queue) (ring (s₀ .front) n) (s₀ .queued) ≡ turned n (queueOf (s₀ .queue) (s₀ .front) (s₀ .queued)) =
-      front-any (s .queue) (s₀ .front + n) (s₀ .queued) ∙ rw e at (t .turns) in
-      subst⁻¹ (λ (u : State). (view (fronts u (ring (s₀ .front) n)) ≡ turn n (view s₀)) × Fine (fronts u (ring (s₀ .front) n))) (t .kept)
+      let q = front-any (s .queue) (s₀ .front + n) (s₀ .queued) ∙ rw e at (t .turns) in
+      subst⁻¹ (λ (u : State). Done (fronts u (ring (s₀ .front) n)) n s₀) (t .kept)
       (rw q, record { front-fits = omega arith; few = fine .few })
 
 abbrev Inv-loop : tie.InvT-loop
@@ -79,8 +78,10 @@ abbrev μ-loop : tie.MeasureT-loop
 μ-loop n self₀ front queued i₀ self i = n - i
 
 loop-holds : tie.Need-loop-holds Inv-loop μ-loop
-loop-holds c = let s = c .args .t1 in
-    record { within = omega arith; kept = refl; sized = queue-length s _ (c .good .0); turns = rw (add-zero (s .front)) refl }
+loop-holds c =
+    let s = c .args .t1 in
+    let n = queue-length s _ (c .good .0) in
+    record { within = omega arith; kept = refl; sized = n; turns = rw (add-zero (s .front)) refl }
 
 add-from : tie.Need-add-from Inv-loop μ-loop
 add-from c = omega arith
@@ -107,13 +108,17 @@ loop-less : tie.Need-loop-less Inv-loop μ-loop
 loop-less c = omega arith
 
 loop-again : tie.Need-loop-again Inv-loop μ-loop
-loop-again c = more (c .before .before .loop .inv) (c .before .before .before .pre .0) (c .before .loop-test .taken)
+loop-again c =
+    let l = c .before .before in
+    more (l .loop .inv) (l .before .pre .0) (c .before .loop-test .taken)
 
 add-self : tie.Need-add-self Inv-loop μ-loop
 add-self c = omega arith
 
 returns : tie.Need-returns Inv-loop μ-loop
-returns c = over (c .before .loop .inv) (c .before .before .pre .0) (c .loop-test .left)
+returns c =
+    let l = c .before in
+    over (l .loop .inv) (l .before .pre .0) (c .loop-test .left)
 
 pub turn-spec : {M : Type 1} → statement M
 turn-spec =

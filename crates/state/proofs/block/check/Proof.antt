@@ -21,10 +21,18 @@ check-numbers-requires : tie.Need-check-numbers-requires
 check-numbers-requires c κs = search needs
 
 returns-2 : tie.Need-returns-2
-returns-2 c = records-fault _ (c .before .before .before .before .before .before .before .args .block .now) (c .before .before .before .before .if1 .left) (sym (c .before .before .before .check-records .ensures) ∙ ap verdictOf (c .before .records .given .1))
+returns-2 c =
+    let r = c .before .before .before in
+    let e = r .before in
+    let some = sym (r .check-records .ensures) ∙ ap verdictOf (c .before .records .given .1) in
+    records-fault _ (e .before .before .before .args .block .now) (e .if1 .left) some
 
 returns-3 : tie.Need-returns-3
-returns-3 c = c .check-numbers .ensures ∙ numbers-decide _ (c .before .before .before .before .before .before .before .args .block .now) (c .before .before .before .before .if1 .left) (sym (c .before .before .before .check-records .ensures) ∙ ap verdictOf (c .before .enum-told .given .1))
+returns-3 c =
+    let r = c .before .before .before in
+    let e = r .before in
+    let none = sym (r .check-records .ensures) ∙ ap verdictOf (c .before .enum-told .given .1) in
+    c .check-numbers .ensures ∙ numbers-decide _ (e .before .before .before .args .block .now) (e .if1 .left) none
 
 pub check-spec : {M : Type 1} → statement M
 check-spec =

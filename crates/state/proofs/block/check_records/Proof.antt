@@ -10,7 +10,8 @@ use Rattle.state.proofs.block.check_records.Statement.{statement}
 use Rattle.state.proofs.block.check_records.Tie as tie
 
 abbrev Inv-loop : tie.InvT-loop
-Inv-loop table block i₀ i = (i ≤ 33) × (checkRecords (isPlace (recipeOf table)) block (33 - i) i ≡ checkRecords (isPlace (recipeOf table)) block 33 0)
+Inv-loop table block i₀ i =
+    (i ≤ 33) × (checkRecords (isPlace (recipeOf table)) block (33 - i) i ≡ checkRecords (isPlace (recipeOf table)) block 33 0)
 
 abbrev μ-loop : tie.MeasureT-loop
 μ-loop table block i₀ i = 33 - i
@@ -23,8 +24,12 @@ record-fits-requires c κs = let o = c .before .before .before .before in
     (o .pre .0, o .pre .1, omega arith)
 
 returns : tie.Need-returns Inv-loop μ-loop
-returns c = let l = c .before .before .before .loop in
-    records-stop _ (c .before .before .before .before .before .before .args .block .now) (l .i) (c .before .before .loop-test .taken) (sym (c .before .record-fits .ensures) ∙ not-true _ (c .if1 .taken)) ∙ l .inv .1
+returns c =
+    let r = c .before in
+    let l = r .before .before in
+    let b = l .before .before .before .args .block .now in
+    let bad = sym (r .record-fits .ensures) ∙ not-true _ (c .if1 .taken) in
+    records-stop _ b (l .loop .i) (r .before .loop-test .taken) bad ∙ l .loop .inv .1
 
 add-i : tie.Need-add-i Inv-loop μ-loop
 add-i c = omega arith
@@ -33,12 +38,17 @@ loop-less : tie.Need-loop-less Inv-loop μ-loop
 loop-less c = omega arith
 
 loop-again : tie.Need-loop-again Inv-loop μ-loop
-loop-again c = let l = c .before .before .before .loop in
-    (omega arith, records-go _ (c .before .before .before .before .before .before .args .block .now) (l .i) (c .before .before .loop-test .taken) (sym (c .before .record-fits .ensures) ∙ not-false _ (c .if1 .left)) ∙ l .inv .1)
+loop-again c =
+    let r = c .before in
+    let l = r .before .before in
+    let b = l .before .before .before .args .block .now in
+    let good = sym (r .record-fits .ensures) ∙ not-false _ (c .if1 .left) in
+    (omega arith, records-go _ b (l .loop .i) (r .before .loop-test .taken) good ∙ l .loop .inv .1)
 
 returns-2 : tie.Need-returns-2 Inv-loop μ-loop
-returns-2 c = let l = c .before .loop in
-    records-end _ (c .before .before .before .before .args .block .now) (l .i) (c .loop-test .left) ∙ l .inv .1
+returns-2 c =
+    let l = c .before in
+    records-end _ (l .before .before .before .args .block .now) (l .loop .i) (c .loop-test .left) ∙ l .loop .inv .1
 
 pub check-records-spec : {M : Type 1} → statement M
 check-records-spec =

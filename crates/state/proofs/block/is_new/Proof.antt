@@ -36,25 +36,35 @@ half-at-requires-2 : tie.Need-half-at-requires-2 Inv-loop μ-loop
 half-at-requires-2 c κs = omega arith
 
 returns : tie.Need-returns Inv-loop μ-loop
-returns c = let o = c .before .before .before .before .before .before in
-    let b = o .args .block .now in
-    let k = c .before .before .before .loop .k in
-    number-there b (numberIn b (o .args .i)) k (o .args .i - 1)
-    (sym (c .before .half-at2 .ensures) ∙ c .if1 .taken ∙ c .before .before .before .before .half-at .ensures) (omega arith)
+returns c =
+    let h = c .before in
+    let l = h .before .before in
+    let n = l .before in
+    let a = n .before .before .args in
+    number-there (a .block .now) (numberIn (a .block .now) (a .i)) (l .loop .k) (a .i - 1)
+    (sym (h .half-at2 .ensures) ∙ c .if1 .taken ∙ n .half-at .ensures) (omega arith)
 
 loop-less : tie.Need-loop-less Inv-loop μ-loop
 loop-less c = omega arith
 
 loop-again : tie.Need-loop-again Inv-loop μ-loop
-loop-again c = let l = c .before .before .before .loop in
-    (omega arith, number-not (c .before .before .before .before .before .before .args .block .now) (c .before .before .before .before .half-at .result) (l .k) (l .inv .1) (λ e. c .if1 .left (c .before .half-at2 .ensures ∙ e)))
+loop-again c =
+    let h = c .before in
+    let l = h .before .before in
+    let n = l .before in (
+      omega arith,
+      number-not (n .before .before .args .block .now) (n .half-at .result) (l .loop .k) (l .loop .inv .1)
+          (λ e. c .if1 .left (h .half-at2 .ensures ∙ e)),
+    )
 
 returns-2 : tie.Need-returns-2 Inv-loop μ-loop
-returns-2 c = let o = c .before .before .before .before in
-    let b = o .args .block .now in
-    let l = c .before .loop in
-    let e : l .k ≡ o .args .i - 1 = omega arith in
-    sym (l .inv .1) ∙ ap (unlike b (c .before .before .half-at .result)) e ∙ ap (λ (n : ℕ). unlike b n (o .args .i - 1)) (c .before .before .half-at .ensures)
+returns-2 c =
+    let l = c .before in
+    let n = l .before in
+    let a = n .before .before .args in
+    let e : l .loop .k ≡ a .i - 1 = omega arith in
+    sym (l .loop .inv .1) ∙ ap (unlike (a .block .now) (n .half-at .result)) e
+    ∙ ap (λ (m : ℕ). unlike (a .block .now) m (a .i - 1)) (n .half-at .ensures)
 
 pub is-new-spec : {M : Type 1} → statement M
 is-new-spec =

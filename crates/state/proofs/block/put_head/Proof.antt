@@ -19,19 +19,27 @@ slice-write-b-2 : tie.Need-slice-write-b-2
 slice-write-b-2 c = search needs
 
 put-word-requires : tie.Need-put-word-requires
-put-word-requires c κs = let k : length (c .before .before .before .put-half .last .0) ≡ length (c .before .before .before .before .before .before .args .b .now) = c .before .before .before .put-half .kept .0 in
+put-word-requires c κs =
+    let u = c .before .before .before in
+    let k : length (u .put-half .last .0) ≡ length (u .before .before .before .args .b .now) = u .put-half .kept .0 in
     simp length-set (omega arith)
 
 same-length : tie.Need-same-length
-same-length c = let k : length (c .before .before .before .before .before .before .put-half .last .0) ≡ length (c .before .before .before .before .before .before .before .before .before .args .b .now) = c .before .before .before .before .before .before .put-half .kept .0 in
-    let m : length (c .before .before .put-word .last .0) ≡ length (c .before .before .before .before .before .before .put-half .last .0) = simp length-set at (c .before .before .put-word .kept .0) in
-    m ∙ k
+same-length c =
+    let v = c .before .before in
+    let u = v .before .before .before .before in
+    let m : length (v .put-word .last .0) ≡ length (u .put-half .last .0) = simp length-set at (v .put-word .kept .0) in
+    m ∙ u .put-half .kept .0
 
 returns : tie.Need-returns
 unfolding headOf
-returns c = let a = c .before .before .before .before .before .before .before .before .before .args in
-    let p : c .before .before .before .before .before .before .put-half .last .0 ≡ sets (a .b .now) 0 (bytes2 (a .issued)) = c .before .before .before .before .before .before .put-half .ensures in
-    let q : c .before .before .put-word .last .0 ≡ sets (set (set (c .before .before .before .before .before .before .put-half .last .0) 2 (a .live)) 3 (a .taken)) 4 (bytes4 0) = c .before .before .put-word .ensures in
+returns c =
+    let v = c .before .before in
+    let u = v .before .before .before .before in
+    let a = u .before .before .before .args in
+    let p : u .put-half .last .0 ≡ sets (a .b .now) 0 (bytes2 (a .issued)) = u .put-half .ensures in
+    let l = set (set (u .put-half .last .0) 2 (a .live)) 3 (a .taken) in
+    let q : v .put-word .last .0 ≡ sets l 4 (bytes4 0) = v .put-word .ensures in
     rw (q, p) (take-sets (headOf (a .issued) (a .live) (a .taken)) (a .b .now) 0 (omega arith))
 
 pub put-head-spec : {M : Type 1} → statement M

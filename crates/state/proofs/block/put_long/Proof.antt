@@ -28,10 +28,14 @@ same-length c = search needs
 
 returns : tie.Need-returns
 unfolding bytes8
-returns c = let a = c .before .before .before .before .before .before .before .before .before .args in
+returns c =
+    let v = c .before .before in
+    let u = v .before .before .before .before in
+    let a = u .before .before .before .args in
     let at4 : a .at + 4 ≡ suc (suc (suc (suc (a .at)))) = omega arith in
-    let p : c .before .before .before .before .before .before .put-word .last .0 ≡ sets (a .b .now) (a .at) (bytes4 (a .x % 4294967296)) = c .before .before .before .before .before .before .put-word .ensures in
-    let q : c .before .before .put-word2 .last .0 ≡ sets (c .before .before .before .before .before .before .put-word .last .0) (a .at + 4) (bytes4 (a .x / 4294967296)) = c .before .before .put-word2 .ensures in
+    let b = u .put-word .last .0 in
+    let p : b ≡ sets (a .b .now) (a .at) (bytes4 (a .x % 4294967296)) = u .put-word .ensures in
+    let q : v .put-word2 .last .0 ≡ sets b (a .at + 4) (bytes4 (a .x / 4294967296)) = v .put-word2 .ensures in
     rw (q, p, at4)
 
 pub put-long-spec : {M : Type 1} → statement M

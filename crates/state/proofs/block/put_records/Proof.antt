@@ -1,6 +1,6 @@
 use mathlib.Core.Path.{_≡_, refl, sym, ap, _∙_}
-use mathlib.Core.List.{_++_, append-nil}
-use Prim.Native.Nat.{_+_, _-_, _*_, _≤_}
+use mathlib.Core.List.{List, _++_, append-nil}
+use Prim.Native.Nat.{ℕ, _+_, _-_, _*_, _≤_}
 use native.Mathlib.Omega.{arith}
 use native.Mathlib.Nat.{add-zero}
 use lib.ListN.{length, getD, take}
@@ -8,12 +8,14 @@ use lib.Seq.{sets, length-sets}
 use Rattle.rules.specs.State.{joined}
 use Rattle.rules.proofs.Lists.{joined-more}
 use Rattle.state.specs.View.{ring}
-use Rattle.state.specs.Block.{bytes8}
+use Rattle.state.specs.Block.{bytes8, ringRows}
 use Rattle.state.proofs.block.put_records.Statement.{statement}
 use Rattle.state.proofs.block.put_records.Tie as tie
 
 abbrev Inv-loop : tie.InvT-loop
-Inv-loop b₀ front n first records i₀ b i = (i ≤ n) × (length b ≡ 520) × (take (8 * (first + i)) b ≡ take (8 * first) b₀ ++ joined i (λ k. bytes8 (getD records (ring front k) 0)))
+Inv-loop b₀ front n first records i₀ b i =
+    (i ≤ n) × (length b ≡ 520)
+    × (take (8 * (first + i)) b ≡ take (8 * first) b₀ ++ ringRows records front i)
 
 abbrev μ-loop : tie.MeasureT-loop
 μ-loop b₀ front n first records i₀ b i = n - i
@@ -48,20 +50,20 @@ loop-less c = omega arith
 
 loop-again : tie.Need-loop-again Inv-loop μ-loop
 unfolding bytes8
-loop-again c = let p = c .before .before in
+loop-again c =
+    let p = c .before .before in
     let h = p .before .before .before in
     let a = h .before .before .args in
     let i = h .loop .i in
     let b = h .loop .b in
-    let x = getD (a .t2) (ring (a .front) i) 0 in
+    let f : ℕ → List ℕ = λ k. bytes8 (getD (a .t2) (ring (a .front) k) 0) in
     let at = 8 * (a .first + i) in
-    let e : p .put-long .last .0 ≡ sets b at (bytes8 x) = p .put-long .ensures in
+    let e : p .put-long .last .0 ≡ sets b at (f i) = p .put-long .ensures in
     let n : 8 * (a .first + (i + 1)) ≡ at + 8 = omega arith in
-    let k : length (p .put-long .last .0) ≡ length b = ap length e ∙ length-sets b at (bytes8 x) in (
+    let l : length (p .put-long .last .0) ≡ length b = ap length e ∙ length-sets b at (f i) in (
       omega arith,
       omega arith,
-      rw (n, e)
-          (joined-more b (take (8 * a .first) (a .b .now)) (λ k. bytes8 (getD (a .t2) (ring (a .front) k) 0)) i at 8 (bytes8 x) refl (omega arith) (h .loop .inv .2) refl),
+      rw (n, e) (joined-more b (take (8 * a .first) (a .b .now)) f i at 8 (f i) refl (omega arith) (h .loop .inv .2) refl),
     )
 
 same-length : tie.Need-same-length Inv-loop μ-loop

@@ -1,12 +1,10 @@
 use mathlib.Core.Path.{_≡_, refl, sym, ap, _∙_}
-use mathlib.Core.List.{_++_, append-nil}
-use Prim.Native.Nat.{_+_, _-_, _*_, _≤_}
+use mathlib.Core.List.{List, _++_, append-nil}
+use Prim.Native.Nat.{ℕ, _+_, _-_, _*_, _≤_}
 use native.Mathlib.Omega.{arith}
 use lib.IntN.{pos}
 use lib.ListN.{length, getD, take}
 use lib.Seq.{sets, length-sets, take-all}
-use mir.Syntax.{w32}
-use mir.Val.{toZ, ofZ}
 use Rattle.values.proofs.Exact.{result32}
 use Rattle.rules.specs.Fields.{bits, bytes4}
 use Rattle.rules.specs.State.{joined}
@@ -15,7 +13,9 @@ use Rattle.state.proofs.block.put_variables.Statement.{statement}
 use Rattle.state.proofs.block.put_variables.Tie as tie
 
 abbrev Inv-loop : tie.InvT-loop
-Inv-loop b₀ variables j₀ b j = (j ≤ 64) × (length b ≡ 520) × (take (264 + 4 * j) b ≡ take 264 b₀ ++ joined j (λ k. bytes4 (bits (getD variables k (pos 0)))))
+Inv-loop b₀ variables j₀ b j =
+    (j ≤ 64) × (length b ≡ 520)
+    × (take (264 + 4 * j) b ≡ take 264 b₀ ++ joined j (λ k. bytes4 (bits (getD variables k (pos 0)))))
 
 abbrev μ-loop : tie.MeasureT-loop
 μ-loop b₀ variables j₀ b j = 64 - j
@@ -46,21 +46,21 @@ loop-less : tie.Need-loop-less Inv-loop μ-loop
 loop-less c = omega arith
 
 loop-again : tie.Need-loop-again Inv-loop μ-loop
-loop-again c = let p = c .before .before in
+loop-again c =
+    let p = c .before .before in
     let h = p .before .before .before .before in
     let a = h .before .before .args in
     let j = h .loop .j in
     let b = h .loop .b in
-    let v = getD (a .t2) j (pos 0) in
+    let f : ℕ → List ℕ = λ k. bytes4 (bits (getD (a .t2) k (pos 0))) in
     let at = 264 + 4 * j in
-    let z : toZ w32 (ofZ w32 v) ≡ v = result32 (p .before .put-value-arg2 .given) in
-    let e : p .put-value .last .0 ≡ sets b at (bytes4 (bits v)) = p .put-value .ensures ∙ rw z in
+    let z = result32 {z = getD (a .t2) j (pos 0)} (p .before .put-value-arg2 .given) in
+    let e : p .put-value .last .0 ≡ sets b at (f j) = p .put-value .ensures ∙ rw z in
     let n : 264 + 4 * (j + 1) ≡ at + 4 = omega arith in
-    let k : length (p .put-value .last .0) ≡ length b = ap length e ∙ length-sets b at (bytes4 (bits v)) in (
+    let l : length (p .put-value .last .0) ≡ length b = ap length e ∙ length-sets b at (f j) in (
       omega arith,
       omega arith,
-      rw (n, e)
-          (joined-more b (take 264 (a .b .now)) (λ k. bytes4 (bits (getD (a .t2) k (pos 0)))) j at 4 (bytes4 (bits v)) refl (omega arith) (h .loop .inv .2) refl),
+      rw (n, e) (joined-more b (take 264 (a .b .now)) f j at 4 (f j) refl (omega arith) (h .loop .inv .2) refl),
     )
 
 same-length : tie.Need-same-length Inv-loop μ-loop

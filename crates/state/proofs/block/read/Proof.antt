@@ -9,14 +9,17 @@ use borrow.Author.Needs.{needs}
 use Rattle.state.proofs.block.read.Statement.{statement}
 use Rattle.state.proofs.block.read.Tie as tie
 
--- the first record fits
 head : (c : tie.After-wide2) → HeadFit (c .before .before .before .before .before .before .args .block .now)
-head c = head-facts (c .before .before .before .before .before .before .args .block .now) (c .before .before .before .before .before .before .pre .1)
+head c =
+    let o = c .before .before .before .before .before .before in
+    head-facts (o .args .block .now) (o .pre .1)
 
-few : (c : tie.After-wide2) → (c .wide2 .result ≤ 1) × (c .wide2 .result ≤ c .before .before .wide .result) × (c .before .before .wide .result ≤ 32)
+few : (c : tie.After-wide2)
+    → (c .wide2 .result ≤ 1) × (c .wide2 .result ≤ c .before .before .wide .result) × (c .before .before .wide .result ≤ 32)
 few c =
-    let b = c .before .before .before .before .before .before .args .block .now in
-    let l : c .before .before .wide .result ≡ getD b 2 0 = c .before .before .wide .ensures .0 in
+    let w = c .before .before in
+    let b = w .before .before .before .before .args .block .now in
+    let l : w .wide .result ≡ getD b 2 0 = w .wide .ensures .0 in
     let a : c .wide2 .result ≡ getD b 3 0 = c .wide2 .ensures .0 in
     let h = active-below (getD b 2 0) (getD b 3 0) (head c .active) in
     (omega (arith, h .0), omega (arith, h .1), omega (arith, head c .few))
@@ -49,18 +52,26 @@ add-records-from : tie.Need-add-records-from
 add-records-from c = search needs
 
 records-from-requires : tie.Need-records-from-requires
-records-from-requires c κs = (c .before .before .before .before .before .before .before .before .pre .0, omega (arith, few (c .before .before)), omega arith)
+records-from-requires c κs =
+    let w = c .before .before in
+    (w .before .before .before .before .before .before .pre .0, omega (arith, few w), omega arith)
 
 variables-in-requires : tie.Need-variables-in-requires
 variables-in-requires c κs = search needs
 
 returns : tie.Need-returns
-returns c = let w = c .before .before .before .before in
-    let o = w .before .before .before .before .before .before in
+returns c =
+    let w = c .before .before .before .before in
+    let w1 = w .before .before in
+    let h1 = w1 .before .before in
+    let known = h1 .before in
+    let b = known .before .args .block .now in
+    let q = c .before .records-from in
+    let t = c .before .before .unpack in
     let h = few w in (
-      reads (o .args .block .now) (λ k. w .before .before .before .before .before .shared-slice-known .given k .fits) (head w) _ _ _ _ (c .before .before .unpack .result) (c .before .records-from .result)
-          (w .before .before .before .before .half-at .ensures) (w .before .before .wide .ensures .0) (w .wide2 .ensures .0) (c .variables-in .ensures)
-          (c .before .records-from .ensures) (c .before .before .unpack .ensures ∙ ap unpacked (c .before .before .before .long-at .ensures)),
+      reads b (λ k. known .shared-slice-known .given k .fits) (head w) _ _ _ _ (t .result) (q .result)
+          (h1 .half-at .ensures) (w1 .wide .ensures .0) (w .wide2 .ensures .0) (c .variables-in .ensures)
+          (q .ensures) (t .ensures ∙ ap unpacked (c .before .before .before .long-at .ensures)),
       record { front-fits = omega arith; few = omega (arith, count-active (w .wide2 .result) (h .0)) },
     )
 

@@ -1,5 +1,5 @@
 use mathlib.Core.Path.{_≡_, refl, _∙_}
-use Prim.Native.Nat.{_+_, _-_, _≤_}
+use Prim.Native.Nat.{ℕ, _+_, _-_, _≤_}
 use native.Mathlib.Omega.{arith}
 use lib.ListN.{length, length-set, take}
 use Rattle.rules.specs.State.{tab}
@@ -9,7 +9,8 @@ use Rattle.state.proofs.block.records_from.Statement.{statement}
 use Rattle.state.proofs.block.records_from.Tie as tie
 
 abbrev Inv-loop : tie.InvT-loop
-Inv-loop block first n queue₀ i₀ queue i = (i ≤ n) × (length queue ≡ 32) × (take i queue ≡ tab i (λ k. recordIn block (first + k)))
+Inv-loop block first n queue₀ i₀ queue i =
+    (i ≤ n) × (length queue ≡ 32) × (take i queue ≡ tab i (λ k. recordIn block (first + k)))
 
 abbrev μ-loop : tie.MeasureT-loop
 μ-loop block first n queue₀ i₀ queue i = n - i
@@ -40,11 +41,14 @@ loop-less : tie.Need-loop-less Inv-loop μ-loop
 loop-less c = omega arith
 
 loop-again : tie.Need-loop-again Inv-loop μ-loop
-loop-again c = let a = c .before .before .before .before .args in
-    let l = c .before .before .loop in (
+loop-again c =
+    let a = c .before .before .before .before .args in
+    let l = c .before .before .loop in
+    let x = c .long-at .result in
+    let f : ℕ → ℕ = λ k. recordIn (a .block .now) (a .first + k) in (
       omega arith,
-      length-set (l .queue) (l .i) (c .long-at .result) ∙ l .inv .1,
-      tab-more (l .queue) (λ k. recordIn (a .block .now) (a .first + k)) (l .i) (c .long-at .result) (omega arith) (l .inv .2) (c .long-at .ensures),
+      length-set (l .queue) (l .i) x ∙ l .inv .1,
+      tab-more (l .queue) f (l .i) x (omega arith) (l .inv .2) (c .long-at .ensures),
     )
 
 returns : tie.Need-returns Inv-loop μ-loop

@@ -16,7 +16,8 @@ word-at-requires c κs = search needs
 
 returns : tie.Need-returns
 unfolding unusedFits
-returns c = let a = c .before .before .before .args in
+returns c =
+    let a = c .before .before .before .args in
     rw (ne-eqb (word (a .block .now) (8 * a .i)) 0 (λ e. c .if1 .taken (c .before .word-at .ensures ∙ e)))
 
 mul-word-at-2 : tie.Need-mul-word-at-2
@@ -30,8 +31,12 @@ word-at-requires-2 c κs = search needs
 
 returns-2 : tie.Need-returns-2
 unfolding unusedFits
-returns-2 c = let a = c .before .before .before .before .args in
-    rw (eq-eqb (word (a .block .now) (8 * a .i)) 0 (sym (c .before .before .word-at .ensures) ∙ c .before .if1 .left)) (ap (λ (w : ℕ). eqb w 0) (c .word-at2 .ensures))
+returns-2 c =
+    let e = c .before in
+    let w = e .before in
+    let a = w .before .before .args in
+    rw (eq-eqb (word (a .block .now) (8 * a .i)) 0 (sym (w .word-at .ensures) ∙ e .if1 .left))
+    (ap (λ (x : ℕ). eqb x 0) (c .word-at2 .ensures))
 
 pub unused-fits-spec : {M : Type 1} → statement M
 unused-fits-spec =

@@ -11,7 +11,8 @@ use Rattle.state.proofs.block.variables_in.Statement.{statement}
 use Rattle.state.proofs.block.variables_in.Tie as tie
 
 abbrev Inv-loop : tie.InvT-loop
-Inv-loop block variables₀ j₀ variables j = (j ≤ 64) × (length variables ≡ 64) × (take j variables ≡ tab j (λ k. signed (word block (264 + 4 * k))))
+Inv-loop block variables₀ j₀ variables j =
+    (j ≤ 64) × (length variables ≡ 64) × (take j variables ≡ tab j (λ k. signed (word block (264 + 4 * k))))
 
 abbrev μ-loop : tie.MeasureT-loop
 μ-loop block variables₀ j₀ variables j = 64 - j
@@ -42,11 +43,13 @@ loop-less : tie.Need-loop-less Inv-loop μ-loop
 loop-less c = omega arith
 
 loop-again : tie.Need-loop-again Inv-loop μ-loop
-loop-again c = let b = c .before .before .before .before .args .block .now in
-    let l = c .before .before .loop in (
+loop-again c =
+    let b = c .before .before .before .before .args .block .now in
+    let l = c .before .before .loop in
+    let e = result32 (c .value-at .ok) ∙ c .value-at .ensures in (
       omega arith,
       length-set (l .variables) (l .j) _ ∙ l .inv .1,
-      tab-more (l .variables) (λ k. signed (word b (264 + 4 * k))) (l .j) _ (omega arith) (l .inv .2) (result32 (c .value-at .ok) ∙ c .value-at .ensures),
+      tab-more (l .variables) (λ k. signed (word b (264 + 4 * k))) (l .j) _ (omega arith) (l .inv .2) e,
     )
 
 returns : tie.Need-returns Inv-loop μ-loop

@@ -48,13 +48,25 @@ same-length : tie.Need-same-length
 same-length c = search needs
 
 returns : tie.Need-returns
-returns c = let o = c .before .before .before .before .before .before .before .before .before .before .before .before .before .before .before .before .before .before .before .before .before .before .before .before .before .before in
+returns c =
+    let ev = c .before .before in
+    let ep = ev .before .before .before .before .before in
+    let er = ep .before .before .before .before in
+    let el = er .before .before .before .before .before in
+    let ex = el .before in
+    let eh = ex .before .before .before .before in
+    let ea = eh .before .before in
+    let ed = ea .before in
+    let o = ed .before .before in
+    let s = o .args .s in
     let g = o .good .0 in
-    written (o .args .s) (o .pre .1) (current-held (o .args .s) _ g) (queued-fits (o .args .s) _ g)
-    (c .before .before .before .before .before .before .before .before .before .before .before .before .before .before .before .before .before .before .before .before .before .before .before .wide .result) (c .before .before .before .before .before .before .before .before .before .before .before .before .before .before .before .before .before .before .before .before .before .before .before .before .how-many .result) (c .before .before .before .before .before .before .before .before .before .before .before .before .before .before .before .before .before .pack .result)
-    (c .before .before .before .before .before .before .before .before .before .before .before .before .before .before .before .before .before .before .before .before .before .put-head .last .0) (c .before .before .before .before .before .before .before .before .before .before .before .before .before .before .before .before .put-long .last .0) (c .before .before .before .before .before .before .before .before .before .before .before .put-records .last .0) (c .before .before .before .before .before .before .before .put-records2 .last .0) (c .before .before .put-variables .last .0)
-    (c .before .before .before .before .before .before .before .before .before .before .before .before .before .before .before .before .before .before .before .before .before .before .before .wide .ensures .0) (c .before .before .before .before .before .before .before .before .before .before .before .before .before .before .before .before .before .before .before .before .before .before .before .before .how-many .ensures) (c .before .before .before .before .before .before .before .before .before .before .before .before .before .before .before .before .before .pack .ensures) (c .before .before .before .before .before .before .before .before .before .before .before .before .before .before .before .before .before .before .before .before .before .put-head .kept .0 ∙ o .pre .0)
-    (c .before .before .before .before .before .before .before .before .before .before .before .before .before .before .before .before .before .before .before .before .before .put-head .ensures) (c .before .before .before .before .before .before .before .before .before .before .before .before .before .before .before .before .put-long .ensures) (c .before .before .before .before .before .before .before .before .before .before .before .put-records .ensures) (c .before .before .before .before .before .before .before .put-records2 .ensures) (c .before .before .put-variables .ensures)
+    written s (o .pre .1) (current-held s _ g) (queued-fits s _ g)
+    (ea .wide .result) (ed .how-many .result) (ex .pack .result)
+    (eh .put-head .last .0) (el .put-long .last .0) (er .put-records .last .0)
+    (ep .put-records2 .last .0) (ev .put-variables .last .0)
+    (ea .wide .ensures .0) (ed .how-many .ensures) (ex .pack .ensures) (eh .put-head .kept .0 ∙ o .pre .0)
+    (eh .put-head .ensures) (el .put-long .ensures) (er .put-records .ensures)
+    (ep .put-records2 .ensures) (ev .put-variables .ensures)
 
 pub write-spec : {M : Type 1} → statement M
 write-spec =

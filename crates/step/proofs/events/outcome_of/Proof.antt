@@ -1,7 +1,7 @@
 use native.Mathlib.Omega.{arith}
+use borrow.Author.Needs.{needs}
 use Rattle.values.proofs.Exact.{result32}
 use Rattle.step.proofs.Telling.{goes-tells, gives-tells, waits-tells, ends-tells, valve-tells, set-tells, tasks-tells, spent-tells, spawned-tells}
-use borrow.Author.Needs.{needs}
 use Rattle.step.proofs.events.outcome_of.Statement.{statement}
 use Rattle.step.proofs.events.outcome_of.Tie as tie
 

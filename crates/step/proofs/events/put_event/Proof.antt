@@ -1,16 +1,15 @@
-use Prim.Native.Nat.{_<_}
+use Prim.Native.Nat.{_<_, ℕ}
+use mathlib.Core.Path.{_≡_, ap, _∙_}
 use lib.IntN.{ℤ}
 use lib.Signed.{mag}
+use lib.Seq.{sets}
 use mir.Syntax.{w32}
 use mir.Val.{toZ, ofZ}
-use Prim.Native.Nat.{ℕ}
-use mathlib.Core.Path.{_≡_, ap, _∙_}
-use lib.Seq.{sets}
+use borrow.Author.Needs.{needs}
 use Rattle.rules.specs.Fields.{bits}
 use Rattle.rules.specs.Log.{eventRow}
 use Rattle.values.proofs.Exact.{result32}
 use Rattle.step.specs.Events.{rowOf}
-use borrow.Author.Needs.{needs}
 use Rattle.step.proofs.events.put_event.Statement.{statement}
 use Rattle.step.proofs.events.put_event.Tie as tie
 

@@ -1,12 +1,11 @@
-use Prim.Native.Nat.{ℕ}
+use Prim.Native.Nat.{ℕ, suc, _+_}
 use mathlib.Core.List.{List}
-use lib.Seq.{sets}
-use Rattle.rules.specs.Fields.{bytes4}
-use Prim.Native.Nat.{suc, _+_}
 use mathlib.Core.Path.{_≡_, ap, _∙_}
 use native.Mathlib.Omega.{arith}
+use lib.Seq.{sets}
 use lib.ListN.{length, length-set}
 use borrow.Author.Needs.{needs}
+use Rattle.rules.specs.Fields.{bytes4}
 use Rattle.step.proofs.events.put_row.Statement.{statement}
 use Rattle.step.proofs.events.put_row.Tie as tie
 

@@ -3,10 +3,10 @@ use mathlib.Core.Path.{_≡_, ap, _∙_}
 use native.Mathlib.Omega.{arith}
 use lib.ListN.{length}
 use borrow.Author.Tests.{eq-eqb, ne-eqb}
+use borrow.Author.Needs.{needs}
 use Rattle.rules.specs.Table.{spanOf, inner}
 use Rattle.expr.proofs.Reading.{whole}
 use Rattle.step.proofs.Parts.{spelt-behind, same-span, body-some, body-none}
-use borrow.Author.Needs.{needs}
 use Rattle.step.proofs.moves.body_of.Statement.{statement}
 use Rattle.step.proofs.moves.body_of.Tie as tie
 

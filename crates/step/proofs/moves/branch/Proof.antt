@@ -1,5 +1,5 @@
-use Rattle.values.proofs.Zero.{is-zero, not-zero}
 use borrow.Author.Needs.{needs}
+use Rattle.values.proofs.Zero.{is-zero, not-zero}
 use Rattle.step.proofs.moves.branch.Statement.{statement}
 use Rattle.step.proofs.moves.branch.Tie as tie
 

@@ -3,6 +3,7 @@ use mathlib.Core.List.{List}
 use mathlib.Core.Path.{sym, ap, _∙_, subst⁻¹}
 use native.Mathlib.Omega.{arith}
 use lib.ListN.{getD}
+use borrow.Author.Needs.{needs}
 use Rattle.rules.specs.Table.{recipeOf}
 use Rattle.rules.specs.Places.{Point, start}
 use Rattle.rules.specs.Standing.{pointAt}
@@ -10,7 +11,6 @@ use Rattle.state.specs.View.{taskOf}
 use Rattle.step.specs.Moves.{Moves, Begins}
 use Rattle.step.proofs.There.{Place, end-there, stop-there, few-there, part-there, span-there, from-two, to-eight, leads-there, begins-there}
 use Rattle.step.proofs.Acting.{end-moves}
-use borrow.Author.Needs.{needs}
 use Rattle.step.proofs.moves.move_of.Statement.{statement}
 use Rattle.step.proofs.moves.move_of.Tie as tie
 

@@ -2,8 +2,8 @@ use Prim.Native.Nat.{ℕ}
 use mathlib.Core.Path.{ap, _∙_}
 use native.Mathlib.Omega.{arith}
 use lib.ListN.{getD}
-use Rattle.step.proofs.Parts.{procedure-is, procedure-small}
 use borrow.Author.Needs.{needs}
+use Rattle.step.proofs.Parts.{procedure-is, procedure-small}
 use Rattle.step.proofs.moves.start_of.Statement.{statement}
 use Rattle.step.proofs.moves.start_of.Tie as tie
 

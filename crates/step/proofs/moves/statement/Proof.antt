@@ -1,14 +1,14 @@
 use mathlib.Core.Logic.{_⊎_, inl, inr, dite}
+use mathlib.Core.Path.{_≡_, _∙_}
 use native.Mathlib.Decide.{ℕ-discrete}
+use native.Mathlib.Omega.{arith}
 use lib.IntN.{ℤ}
+use borrow.Author.Needs.{needs}
 use Rattle.rules.specs.Recipe.{read, value}
 use Rattle.rules.specs.Table.{kindOf, nameOf, inner, exprOf}
 use Rattle.values.proofs.Exact.{fits32, applied1}
-use mathlib.Core.Path.{_≡_, _∙_}
-use native.Mathlib.Omega.{arith}
 use Rattle.state.specs.View.{taskOf}
 use Rattle.step.proofs.Acting.{skip-moves, give-moves, wait-moves, set-moves, spawn-moves, test-moves}
-use borrow.Author.Needs.{needs}
 use Rattle.step.proofs.moves.statement.Statement.{statement}
 use Rattle.step.proofs.moves.statement.Tie as tie
 

@@ -1,12 +1,12 @@
 use mathlib.Core.Path.{subst⁻¹, ap, ap₂, _∙_}
 use lib.IntN.{ℤ}
 use mir.Facts.{toZ-ofZ}
+use borrow.Author.Needs.{needs}
 use Rattle.rules.specs.Recipe.{Expr, value}
 use Rattle.rules.specs.Table.{exprOf}
 use Rattle.values.proofs.Exact.{result32}
 use Rattle.expr.specs.Spelt.{Spelt}
 use Rattle.step.proofs.Parts.{spelt-behind, same-expr}
-use borrow.Author.Needs.{needs}
 use Rattle.step.proofs.moves.value_of.Statement.{statement}
 use Rattle.step.proofs.moves.value_of.Tie as tie
 

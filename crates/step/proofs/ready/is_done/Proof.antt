@@ -1,14 +1,14 @@
+use Prim.Native.Nat.{ℕ}
 use mathlib.Core.Path.{_≡_, ap, _∙_}
 use mathlib.Core.Bool.{Bool, not}
-use Prim.Native.Nat.{ℕ}
-use Rattle.rules.specs.Recipe.{Recipe}
 use mir.Facts.{toZ-ofZ}
+use borrow.Author.Needs.{needs}
+use Rattle.rules.specs.Recipe.{Recipe}
 use Rattle.rules.specs.Scheduler.{isLive}
 use Rattle.rules.specs.Steps.{recipes}
 use Rattle.state.specs.View.{queueOf}
 use Rattle.step.specs.Ready.{natural}
 use Rattle.step.proofs.Queue.{none-done, not-issued, issued-done}
-use borrow.Author.Needs.{needs}
 use Rattle.step.proofs.ready.is_done.Statement.{statement}
 use Rattle.step.proofs.ready.is_done.Tie as tie
 

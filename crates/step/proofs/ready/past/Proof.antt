@@ -1,9 +1,9 @@
 use mathlib.Core.Path.{sym, ap, _∙_}
 use native.Mathlib.Omega.{arith}
+use borrow.Author.Needs.{needs}
 use Rattle.rules.specs.Steps.{goTo}
 use Rattle.table.specs.Links.{isStatement}
 use Rattle.step.proofs.There.{Place, Await, await-read, free-there, past-await}
-use borrow.Author.Needs.{needs}
 use Rattle.step.proofs.ready.past.Statement.{statement}
 use Rattle.step.proofs.ready.past.Tie as tie
 

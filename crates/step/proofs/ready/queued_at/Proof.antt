@@ -1,9 +1,9 @@
 use mathlib.Core.Path.{subst⁻¹, ap, _∙_}
+use borrow.Author.Needs.{needs}
 use Rattle.rules.specs.Table.{recipeOf}
 use Rattle.state.specs.View.{entry, queueOf}
 use Rattle.step.specs.Ready.{idle, readyIn, Placed}
 use Rattle.step.proofs.Queue.{every-at}
-use borrow.Author.Needs.{needs}
 use Rattle.step.proofs.ready.queued_at.Statement.{statement}
 use Rattle.step.proofs.ready.queued_at.Tie as tie
 

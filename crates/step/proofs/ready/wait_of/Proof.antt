@@ -3,6 +3,7 @@ use mathlib.Core.Path.{_≡_, sym, ap, _∙_}
 use native.Mathlib.Omega.{arith}
 use lib.IntN.{ℤ}
 use lib.ListN.{getD}
+use borrow.Author.Needs.{needs}
 use Rattle.rules.specs.Recipe.{read}
 use Rattle.rules.specs.Table.{recipeOf}
 use Rattle.rules.specs.Scheduler.{waits-for, isLive}
@@ -10,7 +11,6 @@ use Rattle.rules.specs.Steps.{recipes, isDone}
 use Rattle.values.proofs.Exact.{result32}
 use Rattle.state.specs.View.{taskOf, queueOf}
 use Rattle.step.proofs.There.{Place, Await, await-read, free-there, wait-over, wait-on}
-use borrow.Author.Needs.{needs}
 use Rattle.step.proofs.ready.wait_of.Statement.{statement}
 use Rattle.step.proofs.ready.wait_of.Tie as tie
 
