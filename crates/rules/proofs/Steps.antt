@@ -79,7 +79,7 @@ pub demand-of-recipes : (r : Recipe) (c : State) (cs : List Call) → Allowed (r
 demand-of-recipes r = demand-3 (recipes r) (lawful (at r) (start r) limits)
 
 -- a spawn that no limit stops has room for a task and a number
-room : (queued issued : ℕ) → limits queued issued ≡ none → (queued < 31) × (issued < 65535)
+pub room : (queued issued : ℕ) → limits queued issued ≡ none → (queued < 31) × (issued < 65535)
 unfolding limits
 room queued issued h = go (leb 31 queued) (leb 65535 issued) refl refl h
   where

@@ -1,0 +1,165 @@
+// The tries with no task active: the first ready task is looked for once, those before it are turned, and it is taken up.
+use crate::count::Count;
+use crate::count::Stop;
+use crate::count::note;
+use state::unpack;
+use step::events::Event;
+use step::events::put_event;
+use step::ready::Wait;
+use step::ready::first_ready;
+use step::ready::past;
+use step::ready::queued_at;
+ghost use mathlib.Core.Path.{_≡_};
+ghost use mathlib.Core.Bool.{cond};
+ghost use mathlib.Core.Option.{none, some};
+ghost use mathlib.Core.List.{List};
+ghost use Prim.Native.Nat.{ℕ, _+_, _-_, _*_, _/_, _≤_, _<_};
+ghost use lib.Dec.{leb};
+ghost use lib.ListN.{length};
+ghost use Rattle.rules.specs.Recipe.{Recipe};
+ghost use Rattle.rules.specs.Table.{recipeOf};
+ghost use Rattle.rules.specs.Places.{at};
+ghost use Rattle.rules.specs.State as R;
+ghost use Rattle.rules.specs.Log.{taken};
+ghost use Rattle.rules.specs.Scheduler.{Run, goes, test};
+ghost use Rattle.rules.specs.Steps.{recipes, goTo, pastAt};
+ghost use Rattle.state.specs.View.{entry, turn};
+ghost use Rattle.step.specs.Ready.{idle};
+ghost use Rattle.runner.specs.Along.{endingOf, Along, Decides};
+ghost use Rattle.runner.specs.Idle.{awaitedOf, Turning, Taking, Idling, Tries};
+
+// Why no task was taken up, or that one was; how many were turned before it; and where it goes on.
+pub struct Tried {
+    pub stop: Stop,
+    pub count: Count,
+    pub turns: usize,
+    pub place: u16,
+}
+
+// The number that a task waits for.
+fn awaited(wait: Wait) -> i32
+    ensures { λ r. ⌜ r ≡ awaitedOf wait ⌝ }
+{
+    match wait {
+        Wait::Ready => 0,
+        Wait::Waits(z) => z,
+    }
+}
+
+fn least(a: usize, b: usize) -> usize
+    ensures { λ r. ⌜ r ≡ cond (leb a b) a b ⌝ }
+{
+    if a <= b {
+        return a;
+    }
+    b
+}
+
+// The first k queued tasks, none of them ready, are turned to the back: their log records and the count.
+fn turn_first(
+    table: &[u8],
+    queue: &[u64; 32],
+    variables: &[i32; 64],
+    front: usize,
+    queued: usize,
+    issued: u16,
+    k: usize,
+    budget: u32,
+    log: &mut [u8],
+    before: Count,
+) -> Count
+    requires { ⌜ Turning (now table) (now queue) (now variables) front queued issued k budget (now log) before ⌝ }
+    ensures { λ r. ⌜ ((u : Run (recipes (recipeOf (now (table .entry))))) (given : List ℕ) → Along (recipeOf (now (table .entry))) u budget given before (now (log .entry)) (idle issued (now (variables .entry)) (now (queue .entry)) front queued) → Along (recipeOf (now (table .entry))) u budget given r (now (log .exit)) (turn k (idle issued (now (variables .entry)) (now (queue .entry)) front queued))) ⌝ }
+    ensures { λ r. ⌜ (r .steps ≡ before .steps + k) × (r .written ≡ before .written + 8 * k) ⌝ }
+{
+    let mut i: usize = 0;
+    while i < k {
+        let x = queued_at(table, queue, front, queued, issued, variables, i);
+        let t = x.task;
+        let wait = x.wait;
+        put_event(log, before.written + 8 * i, Event::Turned(t.number, awaited(wait)));
+        i += 1;
+    }
+    Count {
+        steps: before.steps + (k as u32),
+        written: before.written + 8 * k,
+    }
+}
+
+// The queued task k, which is ready, is taken up, if budget and log have room for it.
+fn take(
+    table: &[u8],
+    next: &[u16; 4096],
+    queue: &[u64; 32],
+    front: usize,
+    k: usize,
+    budget: u32,
+    log: &mut [u8],
+    n: Count,
+) -> Tried
+    requires { ⌜ Taking (now table) (now next) (now queue) front k budget (now log) n ⌝ }
+    ensures { λ r. ⌜ ((x : Recipe) (c : R.State) → Decides x (test (recipes x) (budget - n .steps) ((length (now (log .entry)) - n .written) / 8) (goes (some (taken (entry (now (queue .entry)) front k .number))) c)) (r .stop) n (r .count) (now (log .entry)) (now (log .exit))) ⌝ }
+    ensures { λ r. ⌜ (r .turns ≡ k) × ((t : R.Task ℕ) → t .place ≡ entry (now (queue .entry)) front k .place → pastAt (at (recipeOf (now (table .entry))) (t .place)) t ≡ goTo t (r .place)) ⌝ }
+{
+    let at = (front + k) % 32;
+    let t = unpack(queue[at]);
+    let place = past(table, next, t.place);
+    if n.steps == budget {
+        return Tried {
+            stop: Stop::Paused,
+            count: n,
+            turns: k,
+            place: place,
+        };
+    }
+    let d = note(Event::Taken(t.number), log, n);
+    let stop = d.stop;
+    let count = d.count;
+    Tried {
+        stop: stop,
+        count: count,
+        turns: k,
+        place: place,
+    }
+}
+
+// Tries until a task is taken up, or the call stops.
+pub fn try_all(
+    table: &[u8],
+    next: &[u16; 4096],
+    queue: &[u64; 32],
+    variables: &[i32; 64],
+    front: usize,
+    queued: usize,
+    issued: u16,
+    budget: u32,
+    log: &mut [u8],
+    before: Count,
+) -> Tried
+    requires { ⌜ Idling (now table) (now next) (now queue) (now variables) front queued issued budget (now log) before ⌝ }
+    ensures { λ r. ⌜ (r .turns ≤ queued) × (endingOf (r .stop) ≡ none → 0 < queued) × (endingOf (r .stop) ≡ none → before .steps < r .count .steps) ⌝ }
+    ensures { λ r. ⌜ ((u : Run (recipes (recipeOf (now (table .entry))))) (given : List ℕ) → Along (recipeOf (now (table .entry))) u budget given before (now (log .entry)) (idle issued (now (variables .entry)) (now (queue .entry)) front queued) → Tries (recipeOf (now (table .entry))) u budget given (r .count) (now (log .exit)) (turn (r .turns) (idle issued (now (variables .entry)) (now (queue .entry)) front queued)) (r .place) (endingOf (r .stop))) ⌝ }
+{
+    if queued == 0 {
+        return Tried {
+            stop: Stop::Finished,
+            count: before,
+            turns: 0,
+            place: 0,
+        };
+    }
+    let ahead = first_ready(table, queue, front, queued, issued, variables);
+    if ahead == queued {
+        return Tried {
+            stop: Stop::Stuck,
+            count: before,
+            turns: 0,
+            place: 0,
+        };
+    }
+    let left = (budget - before.steps) as usize;
+    let room = (log.len() - before.written) / 8;
+    let k = least(ahead, least(left, room));
+    let n = turn_first(table, queue, variables, front, queued, issued, k, budget, log, before);
+    take(table, next, queue, front, k, budget, log, n)
+}

@@ -1,0 +1,4 @@
+// The recipe runner.
+pub mod active;
+pub mod count;
+pub mod idle;
