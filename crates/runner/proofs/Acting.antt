@@ -60,6 +60,10 @@ pub active-is : (b : Bool) (t : S.Task) (u : Task ℕ) → activeOf b t ≡ some
 active-is true t u h = (refl, cc)
 active-is false t u h = absurd (let z : _≡_ {A = ℕ} 0 1 = cc in omega arith)
 
+pub none-active : (b : Bool) (t : S.Task) → activeOf b t ≡ none → b ≡ false
+none-active true t h = absurd (let z : _≡_ {A = ℕ} 0 1 = cc in omega arith)
+none-active false t h = refl
+
 module _ (r : Recipe) (q : List (Task ℕ)) (x : Option Event) (c : State) where
   -- without new tasks
   pub away : (s : Store) (y : Stay (Task ℕ)) (x′ : Option Event) → _≡_ {A = Next (recipes r)} (goes x′ (stay (recipes r) s (q ++ []) y)) (goes x c) → stay (recipes r) s q y ≡ c

@@ -4,3 +4,5 @@ pub mod Acting
 pub mod Turning
 pub mod Proceeding
 pub mod Trying
+pub mod Driving
+pub mod Calling

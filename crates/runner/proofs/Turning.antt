@@ -37,6 +37,11 @@ front (suc n) (t ∷ q) h =
       first-is = λ d. sym (List·getD-append q (t ∷ []) d n (omega arith)) ∙ f .first-is d;
     }
 
+pub turned-length : {T : Type 0} (n : ℕ) (q : List T) → length (turned n q) ≡ length q
+turned-length zero q = refl
+turned-length (suc n) [] = refl
+turned-length (suc n) (t ∷ q) = turned-length n (q ++ t ∷ []) ∙ omega (arith, length-append q (t ∷ []))
+
 -- ---- the first that can go on
 
 module _ {T : Type 0} (go : T → Bool) where

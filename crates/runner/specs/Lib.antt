@@ -1,3 +1,5 @@
 pub mod Along
 pub mod Active
 pub mod Idle
+pub mod Drive
+pub mod Calls

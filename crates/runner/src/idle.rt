@@ -124,11 +124,11 @@ fn take(
 }
 
 // Tries until a task is taken up, or the call stops.
-pub fn try_all(
+pub fn try_all<'a>(
     table: &[u8],
     next: &[u16; 4096],
-    queue: &[u64; 32],
-    variables: &[i32; 64],
+    queue: &'a [u64; 32],
+    variables: &'a [i32; 64],
     front: usize,
     queued: usize,
     issued: u16,

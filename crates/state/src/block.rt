@@ -138,7 +138,7 @@ fn check_records(table: &[u8], block: &[u8]) -> Verdict
         if !record_fits(table, block, i) {
             return Verdict::Fault {
                 number: 22,
-                place: i,
+                place: i as u32,
             };
         }
         i += 1;

@@ -18,7 +18,7 @@ ghost use Rattle.table.specs.Check.{nameLeasts, nameMosts, spanLeasts, s
 // What checking finds.
 pub enum Verdict {
     Fine,
-    Fault { number: u8, place: usize },
+    Fault { number: u8, place: u32 },
 }
 
 // What is due where a record stands.
@@ -200,12 +200,12 @@ pub fn check_expr(part: &[u8], at: usize, left: usize, ends: Ends) -> Verdict
 {
     let number = record_fault(part, Sort::Expression, ends);
     if number != 0 {
-        return Verdict::Fault { number, place: at };
+        return Verdict::Fault { number, place: at as u32 };
     }
     if left == 0 {
         return Verdict::Fault {
             number: 16,
-            place: at,
+            place: at as u32,
         };
     }
     let kind = part[0];
@@ -233,12 +233,12 @@ fn check_head(part: &[u8], sort: Sort, at: usize, left: usize) -> Verdict
 {
     let number = record_fault(part, sort, Ends::Within);
     if number != 0 {
-        return Verdict::Fault { number, place: at };
+        return Verdict::Fault { number, place: at as u32 };
     }
     if left == 0 {
         return Verdict::Fault {
             number: 16,
-            place: at,
+            place: at as u32,
         };
     }
     let code = encloses(part);
@@ -359,7 +359,7 @@ fn check_spawns(table: &[u8], n: usize) -> Verdict
         if names_none(from(table, off), n) {
             return Verdict::Fault {
                 number: 17,
-                place: i,
+                place: i as u32,
             };
         }
         off += 8;

@@ -26,7 +26,7 @@ fn repeat(buf: &mut [u8], given: usize, len: usize)
     }
 }
 
-fn print(number: u8, place: usize) {
+fn print(number: u8, place: u32) {
     io::print_decimal(STDOUT_FILENO, number as u64);
     io::write_all(STDOUT_FILENO, b" ");
     io::print_decimal(STDOUT_FILENO, place as u64);

@@ -23,6 +23,9 @@ record-fits-requires : tie.Need-record-fits-requires Inv-loop μ-loop
 record-fits-requires c κs = let o = c .before .before .before .before in
     (o .pre .0, o .pre .1, omega arith)
 
+cast-t6 : tie.Need-cast-t6 Inv-loop μ-loop
+cast-t6 c = let h = c .before .before .loop-test .taken in omega arith
+
 returns : tie.Need-returns Inv-loop μ-loop
 returns c =
     let r = c .before in
@@ -58,6 +61,7 @@ check-records-spec =
     μ-loop
     loop-holds
     record-fits-requires
+    cast-t6
     returns
     add-i
     loop-less

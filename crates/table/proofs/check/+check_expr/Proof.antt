@@ -87,11 +87,17 @@ module _ (t : ℕ) where
   record-fault-requires : check-expr-lts.Need-record-fault-requires (callees t) (check-expr-at t) check-expr.Post
   record-fault-requires c κs = c .before .pre .1 .some
 
+  cast-t14 : check-expr-lts.Need-cast-t14 (callees t) (check-expr-at t) check-expr.Post
+  cast-t14 c = omega (arith, c .before .before .before .pre .1 .row .placed)
+
   returns : check-expr-lts.Need-returns (callees t) (check-expr-at t) check-expr.Post
   returns c =
       let s = c .before .before .before in
       let e = c .before .record-fault .ensures in
       rw e (level-own _ (s .args .left) (s .args .at) _ (λ z. c .if1 .taken (e ∙ z)) ∙ expr-levels _ _ (endsOf (s .args .ends)) (now (s .args .part)))
+
+  cast-t15 : check-expr-lts.Need-cast-t15 (callees t) (check-expr-at t) check-expr.Post
+  cast-t15 c = omega (arith, c .before .before .before .before .pre .1 .row .placed)
 
   returns-2 : check-expr-lts.Need-returns-2 (callees t) (check-expr-at t) check-expr.Post
   returns-2 c =
@@ -181,7 +187,9 @@ pub +check-expr-spec : {M : Type 1} → statement M
     (check-expr-at t)
     check-expr.Post
     (record-fault-requires t)
+    (cast-t14 t)
     (returns t)
+    (cast-t15 t)
     (returns-2 t)
     (shared-slice-read-kind t)
     (returns-3 t)

@@ -41,10 +41,16 @@ asked c h = inner-part (start2 c .pre .0) (right2 c) (some-span (right2 c) h)
 record-fault-requires : tie.Need-record-fault-requires
 record-fault-requires c κs = search needs
 
+cast-t9 : tie.Need-cast-t9
+cast-t9 c = let h = c .before .before .before .pre .0 .row .placed in omega arith
+
 returns : tie.Need-returns
 returns c = let s = c .before .before .before in
     let e = c .before .record-fault .ensures in
     rw e (head-own (sortOf (s .args .sort)) (s .args .left) (s .args .at) (now (s .args .part)) (λ z. c .if1 .taken (e ∙ z)))
+
+cast-t10 : tie.Need-cast-t10
+cast-t10 c = let h = c .before .before .before .before .pre .0 .row .placed in omega arith
 
 returns-2 : tie.Need-returns-2
 returns-2 c = let s = c .before .before .before .before in head-none (sortOf (s .args .sort)) (s .args .left) (s .args .at) (now (s .args .part)) (sym (c .before .before .record-fault .ensures) ∙ c .before .if1 .left) (c .if2 .taken)
@@ -98,7 +104,9 @@ check-head-spec =
     tie.close
     (tie.spec
     record-fault-requires
+    cast-t9
     returns
+    cast-t10
     returns-2
     encloses-requires
     enclosed-requires

@@ -22,6 +22,12 @@ from-requires c κs = c .before .loop .inv .0 .inside
 names-none-requires : tie.Need-names-none-requires Inv-loop μ-loop
 names-none-requires c κs = rw (c .from .ensures) (rest-some (c .before .before .loop .inv .0) (c .before .loop-test .taken))
 
+cast-t9 : tie.Need-cast-t9 Inv-loop μ-loop
+cast-t9 c =
+    let l = c .before .before .before .before in
+    let h = c .before .before .before .loop-test .taken in
+    omega (arith, l .loop .inv .2)
+
 returns : tie.Need-returns Inv-loop μ-loop
 returns c = let l = c .before .before .before .before .loop in
     spawns-here (l .inv .0) _ (l .i) (c .before .before .before .loop-test .taken) (sym (c .before .names-none .ensures ∙ ap (namesNone _) (c .before .before .from .ensures)) ∙ c .if1 .taken) ∙ l .inv .1
@@ -55,6 +61,7 @@ check-spawns-spec =
     loop-holds
     from-requires
     names-none-requires
+    cast-t9
     returns
     add-off
     add-i

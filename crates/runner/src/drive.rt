@@ -1,0 +1,85 @@
+// The steps of a run call, until it stops.
+use crate::active::made;
+use crate::active::proceed;
+use crate::count::Count;
+use crate::count::Stop;
+use crate::count::is_more;
+use crate::idle::try_all;
+use state::State;
+ghost use mathlib.Core.Path.{_≡_};
+ghost use mathlib.Core.Bool.{false};
+ghost use Prim.Native.Nat.{_≤_, _<_};
+ghost use Rattle.state.specs.View.{view, Fine, takeUp, turn};
+ghost use Rattle.runner.specs.Drive.{Driving, Drives};
+
+// Why a call stopped, its count, and the state that it leaves.
+pub struct Ran {
+    pub stop: Stop,
+    pub count: Count,
+    pub state: State,
+}
+
+// The front is turned to the back, so often, and the next becomes active, at this place.
+fn taken(s: State, turns: usize, place: u16) -> State
+    requires { ⌜ Fine s × (s .active ≡ false) × (turns ≤ s .queued) × (0 < s .queued) ⌝ }
+    ensures { λ r. ⌜ (view r ≡ takeUp (turn turns (view s) .queue) place (turn turns (view s))) × Fine r ⌝ }
+{
+    if turns == 0 {
+        return s.take_up(place);
+    }
+    s.turn(turns).take_up(place)
+}
+
+// All steps of a call. The state is copied only where the queue changes.
+pub fn drive(
+    table: &[u8],
+    next: &[u16; 4096],
+    starts: &[u16; 256],
+    first: State,
+    budget: u32,
+    log: &mut [u8],
+) -> Ran
+    requires { ⌜ Driving (now table) (now next) (now starts) first ⌝ }
+    ensures { λ r. ⌜ Drives (now (table .entry)) first budget (now (log .entry)) (now (log .exit)) r ⌝ }
+{
+    let mut s = first;
+    let mut n = Count {
+        steps: 0,
+        written: 0,
+    };
+    loop {
+        if s.active {
+            let t = s.current;
+            let queued = s.queued;
+            let issued = s.issued;
+            let p = proceed(table, next, starts, budget, log, t, &mut s.variables, queued, issued, n);
+            let task = p.task;
+            let stop = p.stop;
+            let last = p.last;
+            s.current = task;
+            n = p.count;
+            if !is_more(stop) {
+                return Ran {
+                    stop: stop,
+                    count: n,
+                    state: s,
+                };
+            }
+            s = made(s, last);
+        } else {
+            let w = try_all(table, next, &s.queue, &s.variables, s.front, s.queued, s.issued, budget, log, n);
+            let stop = w.stop;
+            let turns = w.turns;
+            let place = w.place;
+            n = w.count;
+            if !is_more(stop) {
+                return Ran {
+                    stop: stop,
+                    count: n,
+                    state: s.turn(turns),
+                };
+            }
+            s = taken(s, turns, place);
+        }
+    }
+}
