@@ -47,8 +47,8 @@ unfolding logBytes
 noted-next events given log w x b l e =
     let n = log-length events ∙ sym b in
     let cut : drop (w + 8) log ≡ drop (w + 8) given =
-        sym (drop-drop 8 w log) ∙ ap (λ (p : List ℕ). drop 8 p) (ap (λ (p : List ℕ). drop w p) e ∙ drop-at (logBytes events) (drop w given) w n)
-        ∙ drop-drop 8 w given in
+    sym (drop-drop 8 w log) ∙ ap (λ (p : List ℕ). drop 8 p) (ap (λ (p : List ℕ). drop w p) e ∙ drop-at (logBytes events) (drop w given) w n)
+    ∙ drop-drop 8 w given in
     sets-eq (eventRow x) log w (rw event-length l)
     ∙ rw (event-length x, cut, log-append events (x ∷ []), append-nil (eventRow x))
     (ap (λ (p : List ℕ). p ++ eventRow x ++ drop (w + 8) given) (ap (λ (p : List ℕ). take w p) e ∙ take-at (logBytes events) (drop w given) w n))

@@ -243,7 +243,7 @@ module _ (table : List ℕ) (w : Within (recipeOf table)) (issued : ℕ) (variab
           let t = entry queue front₀ k in
           let s : aheadIn table c < length q = rw many some-go in
           let x : next (recipes r) (turn k c) ≡ goes (some (L.taken (f .first .number))) (record { store = c .store; active = some (pastAt (at r (f .first .place)) (f .first)); queue = f .rest })
-              = next-taken (recipes r) (c .store) q k f s e t in
+          = next-taken (recipes r) (c .store) q k f s e t in
           let number = ap (λ (t : R.Task ℕ). t .number) (first-entry k inside) in
           let after : R.State = record { store = c .store; active = some (pastAt (at r (f .first .place)) (f .first)); queue = f .rest } in
           let up = past (f .first) (ap (λ (t : R.Task ℕ). t .place) (first-entry k inside)) in

@@ -52,7 +52,18 @@ pub fn drive(
             let t = s.current;
             let queued = s.queued;
             let issued = s.issued;
-            let p = proceed(table, next, starts, budget, log, t, &mut s.variables, queued, issued, n);
+            let p = proceed(
+                table,
+                next,
+                starts,
+                budget,
+                log,
+                t,
+                &mut s.variables,
+                queued,
+                issued,
+                n,
+            );
             let task = p.task;
             let stop = p.stop;
             let last = p.last;
@@ -67,7 +78,18 @@ pub fn drive(
             }
             s = made(s, last);
         } else {
-            let w = try_all(table, next, &s.queue, &s.variables, s.front, s.queued, s.issued, budget, log, n);
+            let w = try_all(
+                table,
+                next,
+                &s.queue,
+                &s.variables,
+                s.front,
+                s.queued,
+                s.issued,
+                budget,
+                log,
+                n,
+            );
             let stop = w.stop;
             let turns = w.turns;
             let place = w.place;

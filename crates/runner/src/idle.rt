@@ -77,7 +77,11 @@ fn turn_first(
         let x = queued_at(table, queue, front, queued, issued, variables, i);
         let t = x.task;
         let wait = x.wait;
-        put_event(log, before.written + 8 * i, Event::Turned(t.number, awaited(wait)));
+        put_event(
+            log,
+            before.written + 8 * i,
+            Event::Turned(t.number, awaited(wait)),
+        );
         i += 1;
     }
     Count {
@@ -160,6 +164,17 @@ pub fn try_all<'a>(
     let left = (budget - before.steps) as usize;
     let room = (log.len() - before.written) / 8;
     let k = least(ahead, least(left, room));
-    let n = turn_first(table, queue, variables, front, queued, issued, k, budget, log, before);
+    let n = turn_first(
+        table,
+        queue,
+        variables,
+        front,
+        queued,
+        issued,
+        k,
+        budget,
+        log,
+        before,
+    );
     take(table, next, queue, front, k, budget, log, n)
 }

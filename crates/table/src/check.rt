@@ -200,7 +200,10 @@ pub fn check_expr(part: &[u8], at: usize, left: usize, ends: Ends) -> Verdict
 {
     let number = record_fault(part, Sort::Expression, ends);
     if number != 0 {
-        return Verdict::Fault { number, place: at as u32 };
+        return Verdict::Fault {
+            number,
+            place: at as u32,
+        };
     }
     if left == 0 {
         return Verdict::Fault {
@@ -233,7 +236,10 @@ fn check_head(part: &[u8], sort: Sort, at: usize, left: usize) -> Verdict
 {
     let number = record_fault(part, sort, Ends::Within);
     if number != 0 {
-        return Verdict::Fault { number, place: at as u32 };
+        return Verdict::Fault {
+            number,
+            place: at as u32,
+        };
     }
     if left == 0 {
         return Verdict::Fault {

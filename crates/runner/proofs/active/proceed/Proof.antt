@@ -75,8 +75,10 @@ returns c =
     let l = d .before .before .before .before in
     let over = sym (c .before .is-more .ensures) ∙ not-true _ (c .if1 .taken) in (
       d .before .before .move-of .ensures,
-      ((λ e. absurd (not-more (d .decide .result .stop) over e), λ e. absurd (not-more (d .decide .result .stop) over e)),
-      told-all (l .loop .inv) (d .before .before .move-of .ensures) (decides d) (within l)),
+      (
+        (λ e. absurd (not-more (d .decide .result .stop) over e), λ e. absurd (not-more (d .decide .result .stop) over e)),
+        told-all (l .loop .inv) (d .before .before .move-of .ensures) (decides d) (within l),
+      ),
     )
 
 leaves-requires : tie.Need-leaves-requires Inv-loop μ-loop
@@ -92,8 +94,10 @@ returns-2 c =
     let p = l .before .before .before .pre in
     let on = sym (c .before .before .before .is-more .ensures) ∙ not-false _ (c .before .before .if1 .left) in (
       d .before .before .move-of .ensures,
-      ((λ e. sym (c .before .leaves .ensures) ∙ c .if2 .taken, λ e. further (l .loop .inv) (d .before .before .move-of .ensures) (decides d) (p .queue) (p .many) on),
-      told-all (l .loop .inv) (d .before .before .move-of .ensures) (decides d) (within l)),
+      (
+        (λ e. sym (c .before .leaves .ensures) ∙ c .if2 .taken, λ e. further (l .loop .inv) (d .before .before .move-of .ensures) (decides d) (p .queue) (p .many) on),
+        told-all (l .loop .inv) (d .before .before .move-of .ensures) (decides d) (within l),
+      ),
     )
 
 local-requires : tie.Need-local-requires Inv-loop μ-loop

@@ -145,14 +145,14 @@ returns-3 c =
         omega arith,
         λ o. omega arith,
         λ o.
-        let m = takes-one (recipeOf (a .table .now)) state (takes (c .before .before)) o in
-        omega (arith, n .0),
+            let m = takes-one (recipeOf (a .table .now)) state (takes (c .before .before)) o in
+            omega (arith, n .0),
       ),
       λ u given x.
-      rw e
-      (tries (a .table .now) w (a .issued) (a .variables .now) (a .queue .now) (a .front) (a .queued) u (a .budget) given _ _ _ _ _ _ _
-      (f .ensures .0 u given x) s h (takes (c .before .before)) (t .ensures .1 .1)
-      (⊎-elim inl (λ g. inr (⊎-elim (λ i. inl (omega (arith, n .0))) (λ i. inr (omega (arith, n .1))) g)) (k .reason))),
+          rw e
+          (tries (a .table .now) w (a .issued) (a .variables .now) (a .queue .now) (a .front) (a .queued) u (a .budget) given _ _ _ _ _ _ _
+          (f .ensures .0 u given x) s h (takes (c .before .before)) (t .ensures .1 .1)
+          (⊎-elim inl (λ g. inr (⊎-elim (λ i. inl (omega (arith, n .0))) (λ i. inr (omega (arith, n .1))) g)) (k .reason))),
     )
 
 pub try-all-spec : {M : Type 1} → statement M

@@ -64,8 +64,8 @@ loop-again c =
     let z = result32 {z = c .before .before .before .awaited .result} (c .before .before .before .awaited .ok) ∙ c .before .before .before .awaited .ensures in (
       omega arith,
       turned-more (o .args .table .now) (within l) _ _ _ _ _ (o .args .k) _ (taskOf (x .result .task)) (x .result .wait)
-      (l .loop .inv .1) i (p .waits) (p .some-go) (p .in-budget) (p .in-log) (x .ensures .task-is) (x .ensures .wait-is)
-      (rw z at (c .before .before .put-event .ensures)) (c .before .log .given),
+          (l .loop .inv .1) i (p .waits) (p .some-go) (p .in-budget) (p .in-log) (x .ensures .task-is) (x .ensures .wait-is)
+          (rw z at (c .before .before .put-event .ensures)) (c .before .log .given),
     )
 
 cast-t23 : tie.Need-cast-t23 Inv-loop μ-loop

@@ -1,0 +1,308 @@
+//! A safe wrapper of the recipe runner.
+//!
+//! A recipe is a table of 8-byte records. [`State::start`] checks it and gives a fresh state; [`State::run`] makes steps
+//! from there and writes a log. Nothing here panics, and a refused call changes neither state nor log.
+
+use std::fmt;
+
+/// The bytes of a table record and of a log record.
+pub const RECORD: usize = 8;
+/// The bytes of a state block.
+pub const STATE: usize = 520;
+/// The most bytes of a table.
+pub const TABLE: usize = 32_768;
+
+/// What the library's `start` returns.
+#[repr(C)]
+#[derive(Clone, Copy, Debug, PartialEq, Eq)]
+pub struct Started {
+    pub number: u32,
+    pub place: u32,
+}
+
+/// What the library's `run` returns.
+#[repr(C)]
+#[derive(Clone, Copy, Debug, PartialEq, Eq)]
+pub struct Answer {
+    pub number: u32,
+    pub steps: u32,
+    pub records: u32,
+    pub place: u32,
+}
+
+mod library {
+    use super::{Answer, Started};
+
+    extern "C" {
+        pub fn recipe_start(table: *const u8, table_len: usize, state: *mut u8, state_len: usize) -> Started;
+        pub fn recipe_run(
+            table: *const u8,
+            table_len: usize,
+            state: *mut u8,
+            state_len: usize,
+            budget: u32,
+            log: *mut u8,
+            log_len: usize,
+        ) -> Answer;
+    }
+}
+
+/// The library's `start`, on buffers of any content and length.
+pub fn start(table: &[u8], state: &mut [u8]) -> Started {
+    // The borrows keep the buffers alive and apart; the library touches nothing else.
+    unsafe { library::recipe_start(table.as_ptr(), table.len(), state.as_mut_ptr(), state.len()) }
+}
+
+/// The library's `run`, on buffers of any content and length.
+pub fn run(table: &[u8], state: &mut [u8], budget: u32, log: &mut [u8]) -> Answer {
+    // As in `start`.
+    unsafe {
+        library::recipe_run(
+            table.as_ptr(),
+            table.len(),
+            state.as_mut_ptr(),
+            state.len(),
+            budget,
+            log.as_mut_ptr(),
+            log.len(),
+        )
+    }
+}
+
+/// How a run call ended.
+#[derive(Clone, Copy, Debug, PartialEq, Eq)]
+pub enum Ending {
+    /// No task is left.
+    Finished,
+    /// The budget is used up.
+    Paused,
+    /// Every task waits, and none can ever go on.
+    Stuck,
+    /// The next step is a spawn, and 32 tasks are live.
+    Tasks,
+    /// The next step is a spawn, and 65,535 numbers are issued.
+    Spent,
+    /// The next step writes a log record, and the log is full.
+    Logfull,
+}
+
+impl Ending {
+    fn from_number(number: u32) -> Option<Ending> {
+        Some(match number {
+            0 => Ending::Finished,
+            1 => Ending::Paused,
+            2 => Ending::Stuck,
+            3 => Ending::Tasks,
+            4 => Ending::Spent,
+            5 => Ending::Logfull,
+            _ => return None,
+        })
+    }
+}
+
+impl fmt::Display for Ending {
+    fn fmt(&self, f: &mut fmt::Formatter) -> fmt::Result {
+        f.write_str(match self {
+            Ending::Finished => "finished",
+            Ending::Paused => "paused",
+            Ending::Stuck => "stuck",
+            Ending::Tasks => "tasks",
+            Ending::Spent => "spent",
+            Ending::Logfull => "logfull",
+        })
+    }
+}
+
+/// Why a call was refused, and the faulty record of the table (11 to 17) or of the state (22).
+#[derive(Clone, Copy, Debug, PartialEq, Eq)]
+pub struct Refusal {
+    pub number: u32,
+    pub place: u32,
+}
+
+impl Refusal {
+    /// The fault in words.
+    pub fn words(self) -> &'static str {
+        match self.number {
+            11 => "the table's length is 0, not a multiple of 8, or over 32,768 bytes",
+            12 => "a procedure, statement or expression was due, and this is another kind",
+            13 => "the span does not fit",
+            14 => "the name is outside its range",
+            15 => "the value is not 0 where unused, or a spawn's is outside 0 to 255",
+            16 => "the depth is over 16",
+            17 => "the spawn names no procedure of the table",
+            21 => "the state is not of 520 bytes",
+            22 => "the state's record breaks a rule, or its place is none",
+            23 => "there are more live tasks than numbers issued",
+            _ => "not a published number",
+        }
+    }
+}
+
+impl fmt::Display for Refusal {
+    fn fmt(&self, f: &mut fmt::Formatter) -> fmt::Result {
+        write!(f, "refused {} {}", self.number, self.place)
+    }
+}
+
+impl std::error::Error for Refusal {}
+
+/// What a run call that was not refused gives.
+#[derive(Clone, Copy, Debug, PartialEq, Eq)]
+pub struct Ran {
+    pub ending: Ending,
+    pub steps: u32,
+    /// How many records the call wrote, from the log's first byte on.
+    pub records: u32,
+}
+
+/// The state of a recipe's run: a block of 520 bytes.
+#[derive(Clone, Debug, PartialEq, Eq)]
+pub struct State {
+    block: [u8; STATE],
+}
+
+impl State {
+    /// Checks a table and gives a fresh state.
+    pub fn start(table: &[u8]) -> Result<State, Refusal> {
+        let mut block = [0; STATE];
+        match start(table, &mut block) {
+            Started { number: 0, .. } => Ok(State { block }),
+            Started { number, place } => Err(Refusal { number, place }),
+        }
+    }
+
+    /// A saved state. Its content is checked by the next run.
+    pub fn from_bytes(bytes: &[u8]) -> Result<State, Refusal> {
+        match bytes.try_into() {
+            Ok(block) => Ok(State { block }),
+            Err(_) => Err(Refusal { number: 21, place: 0 }),
+        }
+    }
+
+    /// The bytes to save.
+    pub fn as_bytes(&self) -> &[u8; STATE] {
+        &self.block
+    }
+
+    /// Makes steps, as many as the budget at most.
+    pub fn run(&mut self, table: &[u8], budget: u32, log: &mut [u8]) -> Result<Ran, Refusal> {
+        let a = run(table, &mut self.block, budget, log);
+        match Ending::from_number(a.number) {
+            Some(ending) => Ok(Ran { ending, steps: a.steps, records: a.records }),
+            None => Err(Refusal { number: a.number, place: a.place }),
+        }
+    }
+}
+
+/// What a log record tells.
+#[derive(Clone, Copy, Debug, PartialEq, Eq)]
+pub enum Kind {
+    Spawned,
+    Taken,
+    Gave,
+    Waits,
+    Turned,
+    Ended,
+    Valve,
+}
+
+impl Kind {
+    fn from_number(number: u8) -> Option<Kind> {
+        Some(match number {
+            1 => Kind::Spawned,
+            2 => Kind::Taken,
+            3 => Kind::Gave,
+            4 => Kind::Waits,
+            5 => Kind::Turned,
+            6 => Kind::Ended,
+            7 => Kind::Valve,
+            _ => return None,
+        })
+    }
+}
+
+impl fmt::Display for Kind {
+    fn fmt(&self, f: &mut fmt::Formatter) -> fmt::Result {
+        f.write_str(match self {
+            Kind::Spawned => "spawned",
+            Kind::Taken => "taken",
+            Kind::Gave => "gave",
+            Kind::Waits => "waits",
+            Kind::Turned => "turned",
+            Kind::Ended => "ended",
+            Kind::Valve => "valve",
+        })
+    }
+}
+
+/// A log record: the task acting, the valve (0 in other kinds), and the new number, the number awaited or the value set.
+#[derive(Clone, Copy, Debug, PartialEq, Eq)]
+pub struct Record {
+    pub kind: Kind,
+    pub task: u16,
+    pub valve: u8,
+    pub value: i32,
+}
+
+impl Record {
+    fn read(row: &[u8]) -> Option<Record> {
+        let row: [u8; RECORD] = row.try_into().ok()?;
+        let [kind, valve, t0, t1, v0, v1, v2, v3] = row;
+        Some(Record {
+            kind: Kind::from_number(kind)?,
+            task: u16::from_le_bytes([t0, t1]),
+            valve,
+            value: i32::from_le_bytes([v0, v1, v2, v3]),
+        })
+    }
+}
+
+impl fmt::Display for Record {
+    fn fmt(&self, f: &mut fmt::Formatter) -> fmt::Result {
+        write!(f, "{} {} {} {}", self.kind, self.task, self.valve, self.value)
+    }
+}
+
+/// The first records of a log, up to the first bytes that are none.
+pub fn records(log: &[u8], count: u32) -> impl Iterator<Item = Record> + '_ {
+    log.chunks_exact(RECORD).take(count as usize).map_while(Record::read)
+}
+
+#[cfg(test)]
+mod tests {
+    use super::*;
+
+    /// Recipe A of the scope document.
+    const A: [[u8; 8]; 9] = [
+        [1, 0, 5, 0, 0, 0, 0, 0],
+        [6, 8, 1, 0, 1, 0, 0, 0],
+        [9, 0, 0, 0, 5, 0, 0, 0],
+        [8, 8, 0, 0, 0, 0, 0, 0],
+        [3, 0, 1, 0, 0, 0, 0, 0],
+        [9, 0, 0, 0, 1, 0, 0, 0],
+        [1, 0, 2, 0, 0, 0, 0, 0],
+        [3, 1, 1, 0, 0, 0, 0, 0],
+        [10, 64, 0, 0, 0, 0, 0, 0],
+    ];
+
+    #[test]
+    fn recipe_a_runs() {
+        let table = A.concat();
+        let mut log = [0; 256];
+        let mut state = State::start(&table).unwrap();
+        let ran = state.run(&table, 100, &mut log).unwrap();
+        assert_eq!(ran, Ran { ending: Ending::Finished, steps: 8, records: 8 });
+        let last = records(&log, ran.records).last().unwrap();
+        assert_eq!(last.to_string(), "ended 1 0 0");
+    }
+
+    #[test]
+    fn refusals_are_told() {
+        assert_eq!(State::start(&[]), Err(Refusal { number: 11, place: 0 }));
+        assert_eq!(State::from_bytes(&[0; 519]), Err(Refusal { number: 21, place: 0 }));
+        let mut state = State::from_bytes(&[0; STATE]).unwrap();
+        let refused = state.run(&A.concat(), 1, &mut []);
+        assert_eq!(refused, Err(Refusal { number: 22, place: 0 }));
+    }
+}
