@@ -1,6 +1,6 @@
 use native.Mathlib.Omega.{arith}
-use Rattle.trial_tables.proofs.main.Statement.{statement}
-use Rattle.trial_tables.proofs.main.Tie as tie
+use Rattle.trials.proofs.main.Statement.{statement}
+use Rattle.trials.proofs.main.Tie as tie
 
 abbrev Inv-loop : tie.InvT-loop
 Inv-loop turns₀ turns = Unit {0}

@@ -3,8 +3,8 @@ use Prim.Native.Nat.{_-_, _≤_}
 use mathlib.Core.Path.{_≡_, refl, _∙_}
 use native.Mathlib.Omega.{arith}
 use lib.ListN.{length, length-set}
-use Rattle.trial_tables.proofs.repeat.Statement.{statement}
-use Rattle.trial_tables.proofs.repeat.Tie as tie
+use Rattle.trials.proofs.repeat.Statement.{statement}
+use Rattle.trials.proofs.repeat.Tie as tie
 
 abbrev Inv-loop : tie.InvT-loop
 Inv-loop buf₀ given len i₀ buf i = (length buf ≡ length buf₀) × (8 ≤ i)
