@@ -1,0 +1,284 @@
+/*
+ * A host for the recipe runner: loads a recipe's table from a file, runs it
+ * slice by slice and prints what happened.
+ *
+ *     press [-s STATEFILE] [-n SLICES] TABLE
+ *
+ * A slice is one recipe_run call: SLICE_STEPS steps, fewer where the log fills.
+ * -s saves the state after each slice and resumes from the file if it is there.
+ * -n stops after so many slices.
+ */
+#define _POSIX_C_SOURCE 200112L
+
+#include "recipe_runner.h"
+
+#include <errno.h>
+#include <inttypes.h>
+#include <stdio.h>
+#include <stdlib.h>
+#include <string.h>
+#include <unistd.h>
+
+enum { SLICE_STEPS = 100, LOG_RECORDS = 4 };
+
+enum exit_status {
+    EXIT_FINISHED = 0,
+    EXIT_REFUSED = 1,
+    EXIT_TROUBLE = 2, /* usage, input or output */
+    EXIT_UNFINISHED = 3
+};
+
+/* Table and state have one byte more than they may: a file that is too long is
+   then refused by the runner, with its number. */
+struct press {
+    const char *table_file;
+    const char *state_file; /* NULL: do not save */
+    unsigned long slices;   /* 0: until the run ends */
+    uint64_t steps;
+    size_t table_len;
+    size_t state_len;
+    uint8_t table[RECIPE_TABLE_MOST_BYTES + 1];
+    uint8_t state[RECIPE_STATE_BYTES + 1];
+    uint8_t log[LOG_RECORDS * RECIPE_RECORD_BYTES];
+};
+
+static int trouble(const char *what)
+{
+    fprintf(stderr, "press: %s: %s\n", what, strerror(errno));
+    return EXIT_TROUBLE;
+}
+
+static int usage(void)
+{
+    fputs("usage: press [-s STATEFILE] [-n SLICES] TABLE\n", stderr);
+    return EXIT_TROUBLE;
+}
+
+/* Read at most `size` bytes. 0, or -1 with errno set. */
+static int read_file(const char *path, uint8_t *bytes, size_t size, size_t *len)
+{
+    FILE *file = fopen(path, "rb");
+    int error;
+
+    if (file == NULL)
+        return -1;
+    *len = fread(bytes, 1, size, file);
+    error = ferror(file) ? errno : 0;
+    fclose(file);
+    errno = error;
+    return error == 0 ? 0 : -1;
+}
+
+/* Write and bring to disk: a rename that gets there before the content would
+   leave an empty state after a power cut. */
+static int write_file(const char *path, const uint8_t *bytes, size_t len)
+{
+    FILE *file = fopen(path, "wb");
+    int written;
+
+    if (file == NULL)
+        return -1;
+    written = fwrite(bytes, 1, len, file) == len && fflush(file) == 0 &&
+              fsync(fileno(file)) == 0;
+    return fclose(file) == 0 && written ? 0 : -1;
+}
+
+/* The state file is the old state or the new one at any time, never a part. */
+static int save_state(const struct press *press)
+{
+    static const char suffix[] = ".tmp";
+    size_t len = strlen(press->state_file);
+    char *temporary = malloc(len + sizeof suffix);
+    int result = -1;
+    int error;
+
+    if (temporary == NULL)
+        return -1;
+    memcpy(temporary, press->state_file, len);
+    memcpy(temporary + len, suffix, sizeof suffix);
+    if (write_file(temporary, press->state, press->state_len) == 0)
+        result = rename(temporary, press->state_file);
+    error = errno;
+    if (result != 0)
+        remove(temporary);
+    free(temporary);
+    errno = error;
+    return result;
+}
+
+static int32_t record_value(const uint8_t *record)
+{
+    uint32_t bits = (uint32_t)record[4] | (uint32_t)record[5] << 8 |
+                    (uint32_t)record[6] << 16 | (uint32_t)record[7] << 24;
+    int32_t value;
+
+    /* A cast of the upper half would be up to the compiler. */
+    memcpy(&value, &bits, sizeof value);
+    return value;
+}
+
+static const char *kind_word(uint8_t kind)
+{
+    switch (kind) {
+    case RECIPE_LOG_SPAWNED: return "spawned";
+    case RECIPE_LOG_TAKEN: return "taken";
+    case RECIPE_LOG_GAVE: return "gave";
+    case RECIPE_LOG_WAITS: return "waits";
+    case RECIPE_LOG_TURNED: return "turned";
+    case RECIPE_LOG_ENDED: return "ended";
+    case RECIPE_LOG_VALVE: return "valve";
+    default: return "unknown";
+    }
+}
+
+static const char *ending_word(uint32_t number)
+{
+    switch (number) {
+    case RECIPE_FINISHED: return "finished";
+    case RECIPE_PAUSED: return "paused";
+    case RECIPE_STUCK: return "stuck";
+    case RECIPE_TASKS: return "tasks";
+    case RECIPE_SPENT: return "spent";
+    case RECIPE_LOGFULL: return "logfull";
+    default: return "unknown";
+    }
+}
+
+static void print_log(const uint8_t *log, uint32_t records)
+{
+    uint32_t i;
+
+    for (i = 0; i < records; i++) {
+        const uint8_t *record = log + (size_t)i * RECIPE_RECORD_BYTES;
+        unsigned task = record[2] | (unsigned)record[3] << 8;
+
+        printf("%s %u %u %" PRId32 "\n", kind_word(record[0]), task,
+               (unsigned)record[1], record_value(record));
+    }
+}
+
+static int refused(uint32_t number, uint32_t place)
+{
+    printf("refused %" PRIu32 " %" PRIu32 "\n", number, place);
+    return fflush(stdout) == 0 ? EXIT_REFUSED : trouble("output");
+}
+
+static int ended(const struct press *press, uint32_t number)
+{
+    printf("%s %" PRIu64 "\n", ending_word(number), press->steps);
+    if (fflush(stdout) != 0)
+        return trouble("output");
+    return number == RECIPE_FINISHED ? EXIT_FINISHED : EXIT_UNFINISHED;
+}
+
+/* Take the state from its file, or a fresh one where there is no such file. */
+static int begin(struct press *press)
+{
+    struct recipe_started started;
+
+    if (press->state_file != NULL) {
+        if (read_file(press->state_file, press->state, sizeof press->state,
+                      &press->state_len) == 0)
+            return 0;
+        if (errno != ENOENT)
+            return trouble(press->state_file);
+    }
+    press->state_len = RECIPE_STATE_BYTES;
+    started = recipe_start(press->table, press->table_len, press->state,
+                           press->state_len);
+    if (started.number != RECIPE_ACCEPTED)
+        return refused(started.number, started.place);
+    return 0;
+}
+
+/* One slice. The log goes out before the state is saved: after a power cut
+   between the two a record is told twice, but none is lost. */
+static int run_slice(struct press *press, struct recipe_answer *answer)
+{
+    *answer = recipe_run(press->table, press->table_len, press->state,
+                         press->state_len, SLICE_STEPS, press->log,
+                         sizeof press->log);
+    if (answer->number >= RECIPE_TABLE_LENGTH)
+        return refused(answer->number, answer->place);
+    press->steps += answer->steps;
+    print_log(press->log, answer->records);
+    if (fflush(stdout) != 0)
+        return trouble("output");
+    if (press->state_file != NULL && save_state(press) != 0)
+        return trouble(press->state_file);
+    return 0;
+}
+
+/* A full log is a pause too: the next slice has an empty one. */
+static int may_go_on(uint32_t number)
+{
+    return number == RECIPE_PAUSED || number == RECIPE_LOGFULL;
+}
+
+static int run(struct press *press)
+{
+    struct recipe_answer answer;
+    unsigned long slice = 0;
+    int status;
+
+    do {
+        status = run_slice(press, &answer);
+        if (status != 0)
+            return status;
+        slice++;
+    } while (may_go_on(answer.number) && slice != press->slices);
+    return ended(press, answer.number);
+}
+
+/* A whole number from 1; anything else gives 0. */
+static unsigned long count_of(const char *text)
+{
+    char *end;
+    unsigned long count;
+
+    if (text[0] < '0' || text[0] > '9')
+        return 0;
+    errno = 0;
+    count = strtoul(text, &end, 10);
+    return errno == 0 && *end == '\0' ? count : 0;
+}
+
+static int read_arguments(struct press *press, int argc, char **argv)
+{
+    int option;
+
+    while ((option = getopt(argc, argv, "s:n:")) != -1) {
+        switch (option) {
+        case 's':
+            press->state_file = optarg;
+            break;
+        case 'n':
+            press->slices = count_of(optarg);
+            if (press->slices == 0)
+                return usage();
+            break;
+        default:
+            return usage();
+        }
+    }
+    if (optind != argc - 1)
+        return usage();
+    press->table_file = argv[optind];
+    return 0;
+}
+
+int main(int argc, char **argv)
+{
+    static struct press press;
+    int status = read_arguments(&press, argc, argv);
+
+    if (status != 0)
+        return status;
+    if (read_file(press.table_file, press.table, sizeof press.table,
+                  &press.table_len) != 0)
+        return trouble(press.table_file);
+    status = begin(&press);
+    if (status != 0)
+        return status;
+    return run(&press);
+}

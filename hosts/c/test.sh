@@ -1,0 +1,189 @@
+#!/bin/sh
+# Tests of the host, run by `make test`.
+
+press=./press
+work=${TMPDIR:-/tmp}/press-test.$$
+failed=0
+
+mkdir "$work" || exit 2
+trap 'rm -rf "$work"' EXIT
+trap 'exit 2' HUP INT TERM
+
+# byte NUMBER: one byte.
+byte() {
+    printf '%b' "\\0$(printf '%03o' "$(($1 & 255))")"
+}
+
+# record KIND NAME SPAN VALUE: one record of a table.
+record() {
+    byte "$1"; byte "$2"
+    byte "$3"; byte "$(($3 >> 8))"
+    byte "$4"; byte "$(($4 >> 8))"; byte "$(($4 >> 16))"; byte "$(($4 >> 24))"
+}
+
+# table FILE KIND,NAME,SPAN,VALUE...: a table, a record for each word.
+table() {
+    file=$1
+    shift
+    printf '%s\n' "$@" | while IFS=, read -r kind name span value; do
+        record "$kind" "$name" "$span" "$value"
+    done >"$file"
+}
+
+# check WHAT EXPECTED FOUND
+check() {
+    if [ "$2" = "$3" ]; then
+        echo "ok   $1"
+    else
+        echo "FAIL $1: expected"
+        echo "$2"
+        echo "found"
+        echo "$3"
+        failed=1
+    fi
+}
+
+# said ARGUMENT...: what the host prints and, as last line, its exit status.
+said() {
+    "$press" "$@" 2>"$work/errors"
+    echo "exit $?"
+}
+
+# endings FILE: the ending lines of the runs in a file.
+endings() {
+    awk 'NF == 2 && $1 != "exit"' "$1"
+}
+
+# steps FILE: the sum of their steps.
+steps() {
+    endings "$1" | awk '{ sum += $2 } END { print sum + 0 }'
+}
+
+# words FILE: their words, each once.
+words() {
+    endings "$1" | awk '{ print $1 }' | sort -u
+}
+
+test_rows() {
+    table "$work/a" 1,0,5,0 6,8,1,1 9,0,0,5 8,8,0,0 3,0,1,0 9,0,0,1 \
+        1,0,2,0 3,1,1,0 10,64,0,0
+    check "row A" "spawned 1 0 2
+waits 1 0 2
+taken 2 0 0
+valve 2 1 5
+ended 2 0 0
+taken 1 0 0
+valve 1 0 1
+ended 1 0 0
+finished 8
+exit 0" "$(said "$work/a")"
+
+    table "$work/c" 1,0,1,0 8,8,0,0
+    check "row C is stuck" "waits 1 0 0
+stuck 1
+exit 3" "$(said "$work/c")"
+
+    table "$work/low" 1,0,2,0 3,0,1,0 9,0,0,-2147483648
+    check "a value below 0" "valve 1 0 -2147483648
+ended 1 0 0
+finished 2
+exit 0" "$(said "$work/low")"
+}
+
+test_refused_table() {
+    table "$work/bad" 1,0,1,0 8,65,0,0
+    check "a refused table" "refused 14 1
+exit 1" "$(said -s "$work/none" "$work/bad")"
+
+    # 32,776 bytes: one record over.
+    dd if=/dev/zero of="$work/long" bs=8 count=4097 2>/dev/null
+    check "a table too long" "refused 11 0
+exit 1" "$(said -s "$work/none" "$work/long")"
+
+    : >"$work/empty"
+    check "an empty table" "refused 11 0
+exit 1" "$(said -s "$work/none" "$work/empty")"
+    check "no file written" "$work/none*" "$(echo "$work"/none*)"
+}
+
+test_refused_state() {
+    printf '\001\000' >"$work/short"
+    cp "$work/short" "$work/short.was"
+    check "a state too short" "refused 21 0
+exit 1" "$(said -s "$work/short" "$work/a")"
+
+    dd if=/dev/zero of="$work/zeros" bs=520 count=1 2>/dev/null
+    cp "$work/zeros" "$work/zeros.was"
+    check "a state against the rules" "refused 22 0
+exit 1" "$(said -s "$work/zeros" "$work/a")"
+
+    dd if=/dev/zero of="$work/more" bs=521 count=1 2>/dev/null
+    check "a state too long" "refused 21 0
+exit 1" "$(said -s "$work/more" "$work/a")"
+
+    cmp "$work/short" "$work/short.was" && cmp "$work/zeros" "$work/zeros.was"
+    check "refused states are kept" 0 $?
+}
+
+# Two tasks set valve 1 and yield; main counts to 150 without a record, which
+# takes slices of full length, then waits for both.
+long_table() {
+    table "$work/long_run" 1,0,18,0 6,8,1,1 9,0,0,7 6,9,1,1 9,0,0,11 \
+        5,0,7,0 11,4,2,0 10,10,0,0 9,0,0,150 \
+        3,10,3,0 11,0,2,0 10,10,0,0 9,0,0,1 \
+        8,8,0,0 8,9,0,0 3,0,2,0 12,0,1,0 10,10,0,0 2,0,0,0 \
+        1,0,11,0 5,0,10,0 11,4,2,0 9,0,0,0 10,64,0,0 \
+        3,1,1,0 10,64,0,0 7,0,0,0 3,64,3,0 11,1,2,0 10,64,0,0 9,0,0,1
+}
+
+# resumed: one slice after another, each by a new process, until the run ends;
+# 100 are more than it needs.
+resumed() {
+    slice=0
+    while [ $slice -lt 100 ]; do
+        slice=$((slice + 1))
+        said -s "$work/parts.state" -n 1 "$work/long_run" >"$work/part"
+        cat "$work/part"
+        case $(tail -n 2 "$work/part") in
+        paused*|logfull*) ;;
+        *) return ;;
+        esac
+    done
+}
+
+test_resume() {
+    long_table
+    said -s "$work/whole.state" "$work/long_run" >"$work/whole"
+    resumed >"$work/parts"
+
+    check "the whole run finishes" "finished" "$(words "$work/whole")"
+    check "stopped by budget and by log" "finished
+logfull
+paused" "$(words "$work/parts")"
+    check "same log" "$(awk 'NF == 4' "$work/whole")" \
+        "$(awk 'NF == 4' "$work/parts")"
+    check "same steps" "$(steps "$work/whole")" "$(steps "$work/parts")"
+    cmp "$work/whole.state" "$work/parts.state"
+    check "same last state" 0 $?
+    check "no temporary file left" "$work/*.tmp" "$(echo "$work"/*.tmp)"
+    check "a finished run stays so" "finished 0
+exit 0" "$(said -s "$work/parts.state" "$work/long_run")"
+}
+
+test_trouble() {
+    check "no table named" "exit 2" "$(said)"
+    check "two tables named" "exit 2" "$(said "$work/a" "$work/a")"
+    check "no slices" "exit 2" "$(said -n 0 "$work/a")"
+    check "slices not a number" "exit 2" "$(said -n 1x "$work/a")"
+    check "no such table" "exit 2" "$(said "$work/nowhere")"
+    check "state is a folder" "exit 2" "$(said -s "$work" "$work/a")"
+    check "no place for the state" "exit 2" \
+        "$(said -s "$work/nowhere/state" "$work/a" | tail -n 1)"
+}
+
+test_rows
+test_refused_table
+test_refused_state
+test_resume
+test_trouble
+exit $failed

@@ -1,0 +1,157 @@
+/*
+ * The recipe runner of the press controller: C interface.
+ *
+ * Two calls. recipe_start checks a recipe's table and writes a fresh state;
+ * recipe_run takes steps from a state and writes what happened into a log.
+ * Tasks are scheduled round robin from one ready queue: a task runs until it
+ * yields (suspend), waits (await) or ends. Valves, clocks and sensors are the
+ * host's business.
+ *
+ * Buffers
+ *   Each buffer is a pointer and a length in bytes, lent for the call only.
+ *   - The pointer must not be null, even for length 0, and that many bytes
+ *     must be there. No alignment is asked.
+ *   - Table, state and log must not overlap.
+ *   - Any length and any content is allowed: what breaks a rule is refused.
+ *   - A refused call changes no buffer.
+ *   - Fields of several bytes are little-endian.
+ *
+ * Threads
+ *   The library keeps no state of its own and allocates nothing. Calls on
+ *   different states are independent. One state and its log must not be used
+ *   by two calls at once. The table is only read: calls may share it, and
+ *   nobody may write it during a call.
+ *
+ * Stack
+ *   Have 16,384 bytes of stack free for each call, whatever the table
+ *   holds. Measured on x86-64: at most 14,351 bytes in recipe_run and 2,799 in
+ *   recipe_start, rounded up here to the next 4 KiB.
+ */
+#ifndef RECIPE_RUNNER_H
+#define RECIPE_RUNNER_H
+
+#include <stddef.h>
+#include <stdint.h>
+
+#ifdef __cplusplus
+extern "C" {
+#endif
+
+/* Size of a record of the table, of the state and of the log. */
+#define RECIPE_RECORD_BYTES 8
+
+/* Size of a state: always exactly this. */
+#define RECIPE_STATE_BYTES 520
+
+/* The longest table: 4,096 records. The shortest has one. */
+#define RECIPE_TABLE_MOST_BYTES 32768
+
+/* The `number` of both calls: an ending (0-5) or a refusal (11 and up). */
+enum recipe_number {
+    /* recipe_start: the table is accepted and the fresh state written. */
+    RECIPE_ACCEPTED = 0,
+
+    /* recipe_run: endings. State and log are as after the steps counted. */
+    RECIPE_FINISHED = 0, /* no task is left */
+    RECIPE_PAUSED = 1,   /* the budget is used up: run again to go on */
+    RECIPE_STUCK = 2,    /* every task waits and none can go on */
+    RECIPE_TASKS = 3,    /* next is a spawn and 32 tasks are live */
+    RECIPE_SPENT = 4,    /* next is a spawn and number 65,535 is issued */
+    RECIPE_LOGFULL = 5,  /* the next step's record has no room: run again */
+
+    /* Refusals of the table; place is the faulty record's index. */
+    RECIPE_TABLE_LENGTH = 11, /* 0, no multiple of 8, or too long; place 0 */
+    RECIPE_TABLE_KIND = 12,   /* another kind was due */
+    RECIPE_TABLE_SPAN = 13,
+    RECIPE_TABLE_NAME = 14,
+    RECIPE_TABLE_VALUE = 15,
+    RECIPE_TABLE_DEPTH = 16, /* deeper than 16 */
+    RECIPE_TABLE_SPAWN = 17, /* a spawn names no procedure of the table */
+
+    /* Refusals of the state, once the table has passed. */
+    RECIPE_STATE_LENGTH = 21, /* not RECIPE_STATE_BYTES; place 0 */
+    RECIPE_STATE_RECORD = 22, /* place is the faulty state record's index */
+    RECIPE_STATE_NUMBERS = 23 /* more live tasks than numbers issued; such a
+                                 state breaks a rule of 22, which comes first */
+};
+
+/* Byte 0 of a log record. */
+enum recipe_log_kind {
+    RECIPE_LOG_SPAWNED = 1, /* value: the new task's number */
+    RECIPE_LOG_TAKEN = 2,   /* became active from the ready queue's front */
+    RECIPE_LOG_GAVE = 3,    /* yielded by suspend */
+    RECIPE_LOG_WAITS = 4,   /* reached an await; value: the number awaited */
+    RECIPE_LOG_TURNED = 5,  /* still waits, turned to the ready queue's back;
+                               value: the number awaited */
+    RECIPE_LOG_ENDED = 6,
+    RECIPE_LOG_VALVE = 7    /* set a valve; value: what was set */
+};
+
+/* What recipe_start returns. */
+struct recipe_started {
+    uint32_t number; /* RECIPE_ACCEPTED or a refusal, 11-17 or 21 */
+    uint32_t place;  /* the faulty record; 0 where none is named */
+};
+
+/* What recipe_run returns. */
+struct recipe_answer {
+    uint32_t number;  /* an ending or a refusal */
+    uint32_t steps;   /* steps taken: at most the budget, 0 when refused */
+    uint32_t records; /* log records written: 0 when refused */
+    uint32_t place;   /* the faulty record; 0 where none is named */
+};
+
+/*
+ * Check a table and write a fresh state: the main task, active at its first
+ * statement, every variable 0.
+ *
+ * table, table_len  the recipe: records of RECIPE_RECORD_BYTES, no header, at
+ *                   most RECIPE_TABLE_MOST_BYTES. Byte 0 is the kind, byte 1
+ *                   the name, bytes 2-3 the span, bytes 4-7 the value. Only
+ *                   read.
+ * state, state_len  where the state goes, RECIPE_STATE_BYTES bytes. The old
+ *                   content does not matter; all of it is written when
+ *                   accepted, nothing when refused.
+ *
+ * Refusals: the table's, then RECIPE_STATE_LENGTH.
+ */
+struct recipe_started recipe_start(const uint8_t *table, size_t table_len,
+                                   uint8_t *state, size_t state_len);
+
+/*
+ * Take steps from a state, at most `budget`, and log them.
+ *
+ * table, table_len  the recipe as given to recipe_start. Only read. It is
+ *                   checked anew by each call. Give a state the same table
+ *                   each time: another one is not noticed as such.
+ * state, state_len  RECIPE_STATE_BYTES bytes, from recipe_start or an earlier
+ *                   recipe_run. It holds all there is to a run, so it can be
+ *                   saved, copied and gone on from. Replaced by the state
+ *                   after the steps taken.
+ * budget            0 to 4,294,967,295 steps. Bounds the time of a call.
+ * log, log_len      where the log goes, from its first byte, in each call.
+ *                   Any length; each record takes RECIPE_RECORD_BYTES. Old
+ *                   content does not matter, and bytes past the last record
+ *                   written keep it.
+ *
+ * A log record: byte 0 the kind (enum recipe_log_kind), byte 1 the valve for
+ * RECIPE_LOG_VALVE and 0 in others, bytes 2-3 the number of the task acting,
+ * bytes 4-7 a signed value, two's complement, 0 where none is named.
+ *
+ * After RECIPE_PAUSED or RECIPE_LOGFULL another call goes on where this one
+ * stopped: the calls together do what one with a longer budget and log does.
+ * A log of at least one record gets on each time. After the other endings a
+ * further call with the same state takes no step.
+ *
+ * Before each step the endings are tried in the order finished, stuck, paused,
+ * tasks, spent, logfull. Refusals: the table's, then the state's.
+ */
+struct recipe_answer recipe_run(const uint8_t *table, size_t table_len,
+                                uint8_t *state, size_t state_len,
+                                uint32_t budget, uint8_t *log, size_t log_len);
+
+#ifdef __cplusplus
+}
+#endif
+
+#endif
