@@ -1,13 +1,14 @@
 -- The rules of a record by the columns of the table of kinds.
 -- Assumes nothing.
-use Prim.Native.Nat.{ℕ, _+_, _*_, _≤_, _<_}
-use mathlib.Core.Path.{_≡_, refl, sym, ap, ap₂, _∙_}
-use mathlib.Core.Bool.{Bool, true, false, _&&_}
+use Prim.Native.Nat.{ℕ, zero, suc, _+_, _*_, _≤_, _<_}
+use mathlib.Core.Path.{_≡_, refl, sym, ap, ap₂, _∙_, subst}
+use mathlib.Core.Bool.{Bool, true, false, _&&_, _||_}
 use native.Mathlib.Omega.{arith}
 use native.Mathlib.Decide.{decLt, decLe}
-use mathlib.Core.Logic.{dite}
+use mathlib.Core.Logic.{dite, ⊎-elim}
+use native.Mathlib.Nat.{eq-or-lt-of-le}
 use lib.Dec.{eqb, leb}
-use mathlib.Core.List.{List}
+use mathlib.Core.List.{List, [], _∷_}
 use lib.ListN.{length, getD, List·getD-map}
 use borrow.Author.Tests.{eq-eqb, ne-eqb, le-leb, lt-leb, lt-ltb, le-ltb, leb-true, eqb-true}
 use Rattle.rules.specs.Fields.{word, signed}
@@ -33,6 +34,24 @@ code k = List·getD-map (λ x. codeOf (x .encloses)) kinds k (kind 0 0 nothing u
 
 value-most : (k : ℕ) → getD valueMosts k 0 ≡ mostWord (kindRow k .field)
 value-most k = List·getD-map (λ x. mostWord (x .field)) kinds k (kind 0 0 nothing unused)
+
+-- a column that is 0 but at some kinds: one computed test, and what it says of any other kind
+abbrev pub member : ℕ → List ℕ → Bool
+member k [] = false
+member k (x ∷ xs) = eqb k x || member k xs
+
+abbrev pub zeroBut : (column kinds : List ℕ) → ℕ → Bool
+zeroBut column kinds zero = true
+zeroBut column kinds (suc n) = (member n kinds || eqb (getD column n 0) 0) && zeroBut column kinds n
+
+pub elsewhere : (column kinds : List ℕ) (n : ℕ) → zeroBut column kinds n ≡ true → (k : ℕ) → k < n → member k kinds ≡ false → getD column k 0 ≡ 0
+elsewhere column kinds zero h k l m = absurd (omega arith)
+elsewhere column kinds (suc n) h k l m =
+    let a = and-true (member n kinds || eqb (getD column n 0) 0) (zeroBut column kinds n) h in
+    ⊎-elim
+    (λ e. let z : (member k kinds || eqb (getD column k 0) 0) ≡ true = rw e (a .0) in eqb-true _ _ (rw m at z))
+    (λ g. elsewhere column kinds n (a .1) k g m)
+    (eq-or-lt-of-le {n = k} {m = n} (omega arith))
 
 -- the bounds say what the rules say
 zero-bounds : (s : ℕ) → eqb s 0 ≡ (leb 0 s && leb s 0)

@@ -36,73 +36,134 @@ pub enum Ends {
 }
 
 // The columns of the table of kinds, by kind.
-const NAME_LEASTS: [u8; 13] = [0, 0, 0, 0, 0, 0, 8, 0, 0, 0, 0, 0, 0];
-
-const NAME_MOSTS: [u8; 13] = [0, 0, 0, 64, 0, 0, 64, 0, 64, 0, 64, 7, 1];
-
-const SPAN_LEASTS: [usize; 13] = [0, 0, 0, 1, 1, 1, 1, 0, 0, 0, 0, 2, 1];
-
-const SPAN_MOSTS: [usize; 13] = [
-    0,
-    65535,
-    0,
-    65535,
-    65535,
-    65535,
-    65535,
-    0,
-    0,
-    0,
-    0,
-    65535,
-    65535,
-];
-
-// What a kind encloses: 0 nothing, 1 statements, 2 an expression, 3 an expression and then statements, 4 two expressions.
-const ENCLOSES: [u8; 13] = [0, 1, 0, 2, 3, 3, 2, 0, 0, 0, 0, 4, 2];
-
-const VALUE_MOSTS: [u32; 13] = [0, 0, 0, 0, 0, 0, 255, 0, 0, 4294967295, 0, 0, 0];
-
 fn name_least(kind: usize) -> u8
     requires { ⌜ kind < 13 ⌝ }
     ensures { λ r. ⌜ r ≡ getD nameLeasts kind 0 ⌝ }
 {
-    NAME_LEASTS[kind]
+    if kind == 6 {
+        return 8;
+    }
+    0
 }
 
 fn name_most(kind: usize) -> u8
     requires { ⌜ kind < 13 ⌝ }
     ensures { λ r. ⌜ r ≡ getD nameMosts kind 0 ⌝ }
 {
-    NAME_MOSTS[kind]
+    if kind == 3 {
+        return 64;
+    }
+    if kind == 6 {
+        return 64;
+    }
+    if kind == 8 {
+        return 64;
+    }
+    if kind == 10 {
+        return 64;
+    }
+    if kind == 11 {
+        return 7;
+    }
+    if kind == 12 {
+        return 1;
+    }
+    0
 }
 
 fn span_least(kind: usize) -> usize
     requires { ⌜ kind < 13 ⌝ }
     ensures { λ r. ⌜ r ≡ getD spanLeasts kind 0 ⌝ }
 {
-    SPAN_LEASTS[kind]
+    if kind == 3 {
+        return 1;
+    }
+    if kind == 4 {
+        return 1;
+    }
+    if kind == 5 {
+        return 1;
+    }
+    if kind == 6 {
+        return 1;
+    }
+    if kind == 12 {
+        return 1;
+    }
+    if kind == 11 {
+        return 2;
+    }
+    0
 }
 
 fn span_most(kind: usize) -> usize
     requires { ⌜ kind < 13 ⌝ }
     ensures { λ r. ⌜ r ≡ getD spanMosts kind 0 ⌝ }
 {
-    SPAN_MOSTS[kind]
+    if kind == 1 {
+        return 65535;
+    }
+    if kind == 3 {
+        return 65535;
+    }
+    if kind == 4 {
+        return 65535;
+    }
+    if kind == 5 {
+        return 65535;
+    }
+    if kind == 6 {
+        return 65535;
+    }
+    if kind == 11 {
+        return 65535;
+    }
+    if kind == 12 {
+        return 65535;
+    }
+    0
 }
 
 fn value_most(kind: usize) -> u32
     requires { ⌜ kind < 13 ⌝ }
     ensures { λ r. ⌜ r ≡ getD valueMosts kind 0 ⌝ }
 {
-    VALUE_MOSTS[kind]
+    if kind == 6 {
+        return 255;
+    }
+    if kind == 9 {
+        return 4294967295;
+    }
+    0
 }
 
+// What a kind encloses: 0 nothing, 1 statements, 2 an expression, 3 an expression and then statements, 4 two expressions.
 fn code(kind: usize) -> u8
     requires { ⌜ kind < 13 ⌝ }
     ensures { λ r. ⌜ r ≡ getD codes kind 0 ⌝ }
 {
-    ENCLOSES[kind]
+    if kind == 1 {
+        return 1;
+    }
+    if kind == 3 {
+        return 2;
+    }
+    if kind == 6 {
+        return 2;
+    }
+    if kind == 12 {
+        return 2;
+    }
+    if kind == 4 {
+        return 3;
+    }
+    if kind == 5 {
+        return 3;
+    }
+    if kind == 11 {
+        return 4;
+    }
+    0
 }
 
 // What the first record of a part encloses.
