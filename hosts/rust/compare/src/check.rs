@@ -1,0 +1,88 @@
+//! Comparing the library with the model, case by case, with counts of what occurred.
+
+use crate::case::{compare, Case, Outcome, LIBRARY, MODEL};
+use crate::shrink::shrink;
+use std::collections::BTreeMap;
+use std::fmt;
+
+/// The published numbers that a run can return; 23 is published too, but 22 always comes first.
+pub const RUN_NUMBERS: [u32; 15] = [0, 1, 2, 3, 4, 5, 11, 12, 13, 14, 15, 16, 17, 21, 22];
+/// The published numbers that a start can return.
+pub const START_NUMBERS: [u32; 9] = [0, 11, 12, 13, 14, 15, 16, 17, 21];
+
+/// What was compared.
+#[derive(Default)]
+pub struct Coverage {
+    pub cases: u64,
+    /// Run calls, the steps that they made, and the log records by kind.
+    pub calls: u64,
+    pub steps: u64,
+    pub records: BTreeMap<u32, u64>,
+    /// How many cases had a start, or a run call, with this number.
+    pub starts: BTreeMap<u32, u64>,
+    pub runs: BTreeMap<u32, u64>,
+    /// How many cases had 22 at this state record.
+    pub blocks: BTreeMap<u32, u64>,
+}
+
+impl Coverage {
+    /// Plays a case on both sides and counts it. On a difference, panics with the case and the shrunk one in hex.
+    pub fn check(&mut self, case: &Case, origin: impl fmt::Display) {
+        let outcomes = match compare(case, &LIBRARY, &MODEL) {
+            Ok(outcomes) => outcomes,
+            Err(difference) => {
+                eprintln!("{origin}: the library (left) and the model (right) differ\n{case}{difference}");
+                let small = shrink(case, &|case| compare(case, &LIBRARY, &MODEL).is_err());
+                eprintln!("shrunk:\n{small}");
+                if let Err(difference) = compare(&small, &LIBRARY, &MODEL) {
+                    eprintln!("{difference}");
+                }
+                panic!("{origin}: the library and the model differ");
+            }
+        };
+        self.count(&outcomes);
+    }
+
+    fn count(&mut self, outcomes: &[Outcome]) {
+        self.cases += 1;
+        self.calls += outcomes.len() as u64 - 1;
+        *self.starts.entry(outcomes[0].number).or_default() += 1;
+        for (i, outcome) in outcomes.iter().enumerate().skip(1) {
+            let [steps, records, place] = outcome.others;
+            self.steps += u64::from(steps);
+            for record in outcome.log.chunks_exact(8).take(records as usize) {
+                *self.records.entry(u32::from(record[0])).or_default() += 1;
+            }
+            if outcomes[1..i].iter().all(|earlier| earlier.number != outcome.number) {
+                *self.runs.entry(outcome.number).or_default() += 1;
+                if outcome.number == 22 {
+                    *self.blocks.entry(place).or_default() += 1;
+                }
+            }
+        }
+    }
+
+    /// Whether every published number except 23 occurred, 22 at every record that can be at fault, and every kind of log
+    /// record.
+    pub fn is_whole(&self) -> bool {
+        START_NUMBERS.iter().all(|number| self.starts.contains_key(number))
+            && RUN_NUMBERS.iter().all(|number| self.runs.contains_key(number))
+            && (0..=32).all(|record| self.blocks.contains_key(&record))
+            && (1..=7).all(|kind| self.records.contains_key(&kind))
+    }
+}
+
+impl fmt::Display for Coverage {
+    fn fmt(&self, f: &mut fmt::Formatter) -> fmt::Result {
+        let row = |counts: &BTreeMap<u32, u64>| {
+            let pairs: Vec<String> = counts.iter().map(|(number, count)| format!("{number}: {count}")).collect();
+            pairs.join(", ")
+        };
+        let Coverage { cases, calls, steps, .. } = self;
+        writeln!(f, "{cases} cases, {calls} run calls, {steps} steps on each side, no difference")?;
+        writeln!(f, "cases by number of a run: {}", row(&self.runs))?;
+        writeln!(f, "cases by number of the start: {}", row(&self.starts))?;
+        writeln!(f, "cases by state record of 22: {}", row(&self.blocks))?;
+        writeln!(f, "log records by kind: {}", row(&self.records))
+    }
+}

@@ -1,0 +1,92 @@
+//! The shrinker, tried on sides that are wrong on purpose.
+
+use compare::case::{compare, Case, Side, LIBRARY, MODEL};
+use compare::generate::random_case;
+use compare::random::Random;
+use compare::shrink::shrink;
+
+/// Whether a case differs from the library on this side.
+fn differs(case: &Case, side: &Side) -> bool {
+    compare(case, &LIBRARY, side).is_err()
+}
+
+/// The first differing cases of a seed, shrunk; the shrinker must keep the difference and add nothing.
+fn shrunk(side: &Side, seed: u64) -> Vec<Case> {
+    let cases = (0..).map(|i| random_case(&mut Random::of_case(seed, i)));
+    let wrong: Vec<Case> = cases.filter(|case| differs(case, side)).take(5).collect();
+    let small = wrong.iter().map(|case| shrink(case, &|case| differs(case, side)));
+    let small: Vec<Case> = small.collect();
+    for (case, large) in small.iter().zip(&wrong) {
+        assert!(differs(case, side));
+        assert!(case.table.len() <= large.table.len() && case.calls.len() <= large.calls.len());
+    }
+    small
+}
+
+/// A side that counts a turn as two steps.
+const COUNTS_TURNS_TWICE: Side = Side {
+    start: MODEL.start,
+    run: |table, state, budget, log| {
+        let mut answer = (MODEL.run)(table, state, budget, log);
+        let written = log.as_chunks::<8>().0.iter().take(answer[2] as usize);
+        answer[1] += written.filter(|record| record[0] == 5).count() as u32;
+        answer
+    },
+};
+
+#[test]
+fn a_wrong_count_shrinks_to_one_turn() {
+    for case in shrunk(&COUNTS_TURNS_TWICE, 7) {
+        assert_eq!(case.calls.len(), 1, "{case}");
+        assert_eq!((case.calls[0].budget, case.calls[0].log.len()), (1, 8), "{case}");
+        assert!(case.table.len() <= 24, "{case}");
+    }
+}
+
+/// A side that names a wrong fault of names.
+const MISNAMES_NAMES: Side = Side {
+    start: |table, state| match (MODEL.start)(table, state) {
+        [14, place] => [15, place],
+        other => other,
+    },
+    run: MODEL.run,
+};
+
+#[test]
+fn a_wrong_refusal_shrinks_to_the_record_and_its_parents() {
+    for case in shrunk(&MISNAMES_NAMES, 8) {
+        assert_eq!(case.calls.len(), 0, "{case}");
+        assert_eq!(case.block.len(), 0, "{case}");
+        assert!(case.table.len() <= 24, "{case}");
+    }
+}
+
+/// A side that loses the log's last byte where a valve is set.
+const SPOILS_THE_LOG: Side = Side {
+    start: MODEL.start,
+    run: |table, state, budget, log| {
+        let answer = (MODEL.run)(table, state, budget, log);
+        let written = log.as_chunks::<8>().0.iter().take(answer[2] as usize);
+        let valve = written.filter(|record| record[0] == 7).count() > 0;
+        if let Some(last) = log.last_mut().filter(|_| valve) {
+            *last ^= 1;
+        }
+        answer
+    },
+};
+
+#[test]
+fn a_spoilt_log_shrinks_to_one_valve() {
+    for case in shrunk(&SPOILS_THE_LOG, 9) {
+        assert_eq!(case.calls.len(), 1, "{case}");
+        assert_eq!((case.calls[0].budget, case.calls[0].log.len()), (1, 8), "{case}");
+        assert!(case.table.len() <= 24, "{case}");
+    }
+}
+
+#[test]
+fn right_sides_do_not_differ() {
+    for i in 0..200 {
+        assert!(!differs(&random_case(&mut Random::of_case(10, i)), &MODEL));
+    }
+}

@@ -1,0 +1,19 @@
+//! An independent model of the recipe runner, written from the scope document alone.
+//!
+//! [`start`] and [`run`] are total functions on bytes. The modules follow the document's order, and each function names
+//! the rule that it stands for. It serves as the other side of the comparison tests and as the benchmark's baseline, so
+//! it is written the plain way: the table is read once a call into a vector of nodes, the state is changed in place.
+
+mod table;
+
+mod values;
+
+mod state;
+
+mod steps;
+
+mod log;
+
+mod run;
+
+pub use run::{run, start, Answer, Started};

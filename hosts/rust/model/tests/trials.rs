@@ -1,0 +1,194 @@
+//! The rows "From the trial press", and the readings that look natural and are wrong.
+
+use recipe_model::{run, start, Answer, Started};
+
+type Row = (u8, u8, u16, i32);
+/// A log record: kind, task, valve, value.
+type Line = (u8, u16, u8, i32);
+
+/// A table written as kind(name, span, value).
+fn table(rows: &[Row]) -> Vec<u8> {
+    let mut bytes = Vec::new();
+    for &(kind, name, span, value) in rows {
+        bytes.extend([kind, name]);
+        bytes.extend(span.to_le_bytes());
+        bytes.extend(value.to_le_bytes());
+    }
+    bytes
+}
+
+fn fresh(table: &[u8]) -> Vec<u8> {
+    let mut state = vec![0xa5; 520];
+    assert_eq!(start(table, &mut state), Started { number: 0, place: 0 });
+    state
+}
+
+/// A run from a fresh state: number, steps, and the log.
+fn trial(rows: &[Row], budget: u32) -> (u32, u32, Vec<Line>) {
+    let table = table(rows);
+    let mut state = fresh(&table);
+    let mut log = vec![0; 32_768];
+    let Answer { number, steps, records, place } = run(&table, &mut state, budget, &mut log);
+    assert_eq!(place, 0);
+    let lines = log.as_chunks().0[..records as usize].iter();
+    let lines = lines.map(|&[kind, valve, t0, t1, v0, v1, v2, v3]| {
+        (kind, u16::from_le_bytes([t0, t1]), valve, i32::from_le_bytes([v0, v1, v2, v3]))
+    });
+    (number, steps, lines.collect())
+}
+
+fn ending(rows: &[Row]) -> (u32, u32) {
+    let (number, steps, _) = trial(rows, 10_000);
+    (number, steps)
+}
+
+/// The refusal of a table.
+fn refusal(rows: &[Row]) -> (u32, u32) {
+    let started = start(&table(rows), &mut [0; 520]);
+    (started.number, started.place)
+}
+
+const A: [Row; 9] = [
+    (1, 0, 5, 0),
+    (6, 8, 1, 1),
+    (9, 0, 0, 5),
+    (8, 8, 0, 0),
+    (3, 0, 1, 0),
+    (9, 0, 0, 1),
+    (1, 0, 2, 0),
+    (3, 1, 1, 0),
+    (10, 64, 0, 0),
+];
+
+const F: [Row; 6] = [(1, 0, 4, 0), (5, 0, 3, 0), (9, 0, 0, 1), (6, 8, 1, 1), (9, 0, 0, 0), (1, 0, 0, 0)];
+
+#[test]
+fn a_finishes_and_opens_the_valve_last() {
+    let lines = vec![
+        (1, 1, 0, 2),
+        (4, 1, 0, 2),
+        (2, 2, 0, 0),
+        (7, 2, 1, 5),
+        (6, 2, 0, 0),
+        (2, 1, 0, 0),
+        (7, 1, 0, 1),
+        (6, 1, 0, 0),
+    ];
+    assert_eq!(trial(&A, 10_000), (0, 8, lines));
+}
+
+#[test]
+fn b_turns_one_waiter() {
+    let b = [(1, 0, 3, 0), (6, 8, 1, 1), (9, 0, 0, 0), (8, 8, 0, 0), (1, 0, 1, 0), (7, 0, 0, 0)];
+    let (number, steps, lines) = trial(&b, 10_000);
+    assert_eq!((number, steps), (0, 9));
+    assert_eq!(lines.iter().filter(|line| line.0 == 5).count(), 1);
+}
+
+#[test]
+fn c_and_d_are_stuck() {
+    assert_eq!(ending(&[(1, 0, 1, 0), (8, 8, 0, 0)]), (2, 1));
+    assert_eq!(ending(&[(1, 0, 3, 0), (3, 8, 1, 0), (9, 0, 0, 1), (8, 8, 0, 0)]), (2, 2));
+}
+
+#[test]
+fn e_finishes_or_pauses() {
+    assert_eq!(ending(&[(1, 0, 0, 0)]), (0, 1));
+    assert_eq!(trial(&[(1, 0, 0, 0)], 0), (1, 0, vec![]));
+}
+
+#[test]
+fn f_runs_out_of_tasks() {
+    assert_eq!(ending(&F), (3, 63));
+}
+
+#[test]
+fn f_with_a_suspend_runs_out_of_numbers() {
+    let spent = [(1, 0, 5, 0), (5, 0, 4, 0), (9, 0, 0, 1), (6, 8, 1, 1), (9, 0, 0, 0), (7, 0, 0, 0), (1, 0, 0, 0)];
+    let table = table(&spent);
+    let mut state = fresh(&table);
+    let mut total = 0;
+    loop {
+        let answer = run(&table, &mut state, 10_000, &mut [0; 65_536]);
+        total += answer.steps;
+        if answer.number != 1 && answer.number != 5 {
+            assert_eq!((answer.number, total), (4, 393_205));
+            return;
+        }
+    }
+}
+
+#[test]
+fn lengths() {
+    let longest = |records: u16| {
+        let mut rows = vec![(1, 0, records - 1, 0)];
+        rows.resize(usize::from(records), (2, 0, 0, 0));
+        rows
+    };
+    assert_eq!(refusal(&longest(4_096)), (0, 0));
+    assert_eq!(refusal(&longest(4_097)), (11, 0));
+    assert_eq!(refusal(&[]), (11, 0));
+    assert_eq!(start(&[1, 0, 0, 0, 0, 0, 0], &mut [0; 520]), Started { number: 11, place: 0 });
+    assert_eq!(start(&table(&A), &mut [0; 519]), Started { number: 21, place: 0 });
+}
+
+/// A set whose expression reaches the given depth.
+fn nested(depth: u16) -> Vec<Row> {
+    let mut rows = vec![(1, 0, depth, 0), (3, 8, depth - 1, 0)];
+    rows.extend((2..depth).map(|at| (12, 0, depth - at, 0)));
+    rows.push((9, 0, 0, 1));
+    rows
+}
+
+#[test]
+fn depths() {
+    assert_eq!(refusal(&nested(16)), (0, 0));
+    assert_eq!(refusal(&nested(17)), (16, 17));
+    // Statements count too: sixteen nested ifs put the innermost test at 17.
+    let mut ifs = vec![(1, 0, 32, 0)];
+    ifs.extend((0..16).flat_map(|i| [(4, 0, 31 - 2 * i, 0), (9, 0, 0, 1)]));
+    assert_eq!(refusal(&ifs), (16, 32));
+}
+
+#[test]
+fn faults_in_their_order() {
+    // The test of an if need not reach the end: a second expression stands where a statement is due.
+    assert_eq!(refusal(&[(1, 0, 3, 0), (4, 0, 2, 0), (9, 0, 0, 0), (9, 0, 0, 0)]), (12, 3));
+    // A sole operand that stops short is at fault itself; so is a first one that leaves none for the second.
+    assert_eq!(refusal(&[(1, 0, 3, 0), (3, 8, 2, 0), (9, 0, 0, 0), (9, 0, 0, 0)]), (13, 2));
+    let first = [(1, 0, 4, 0), (3, 8, 3, 0), (11, 0, 2, 0), (12, 0, 1, 0), (9, 0, 0, 0)];
+    assert_eq!(refusal(&first), (13, 3));
+    assert_eq!(refusal(&[(1, 0, 1, 0), (3, 8, 0, 0)]), (13, 1));
+    // Within a record the lower number decides; 17 comes after every record has passed.
+    assert_eq!(refusal(&[(1, 1, 1, 1), (2, 0, 0, 0)]), (14, 0));
+    assert_eq!(refusal(&[(1, 0, 3, 0), (6, 8, 1, 1), (9, 0, 0, 0), (2, 0, 0, 1)]), (15, 3));
+    assert_eq!(refusal(&[(1, 0, 2, 0), (6, 8, 1, 1), (9, 0, 0, 0)]), (17, 1));
+    assert_eq!(refusal(&[(1, 0, 2, 0), (6, 8, 1, 256), (9, 0, 0, 0)]), (15, 1));
+}
+
+#[test]
+fn an_empty_body_is_run_through() {
+    assert_eq!(ending(&[(1, 0, 2, 0), (4, 0, 1, 0), (9, 0, 0, 1)]), (0, 2));
+    assert_eq!(trial(&[(1, 0, 2, 0), (5, 0, 1, 0), (9, 0, 0, 1)], 100), (1, 100, vec![]));
+}
+
+#[test]
+fn the_awaited_variable_is_read_at_each_try() {
+    // Main awaits variable 8, which is 0; task 2 later sets it to 3, the number of a task that has ended.
+    let rows = [
+        (1, 0, 5, 0),
+        (6, 9, 1, 1),
+        (9, 0, 0, 0),
+        (6, 10, 1, 2),
+        (9, 0, 0, 0),
+        (8, 8, 0, 0),
+        (1, 0, 3, 0),
+        (7, 0, 0, 0),
+        (3, 8, 1, 0),
+        (10, 10, 0, 0),
+        (1, 0, 0, 0),
+    ];
+    let (number, steps, lines) = trial(&rows, 100);
+    assert_eq!((number, steps), (0, 13));
+    assert_eq!(lines.iter().filter(|line| line.0 == 5).collect::<Vec<_>>(), [&(5, 1, 0, 0)]);
+}

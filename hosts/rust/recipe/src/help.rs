@@ -1,0 +1,148 @@
+//! The help texts.
+
+/// The text of a subcommand.
+pub fn of(command: &str) -> Option<&'static str> {
+    Some(match command {
+        "asm" => ASM,
+        "dis" => DIS,
+        "check" => CHECK,
+        "run" => RUN,
+        "timeline" => TIMELINE,
+        _ => return None,
+    })
+}
+
+pub const TOOL: &str = "\
+recipe: assembles, lists, checks, runs and draws recipes of the press controller
+
+usage: recipe SUBCOMMAND [FILE] [OPTIONS]
+
+  asm       text to a table
+  dis       a table to text
+  check     whether a table is accepted, with its counts or its fault
+  run       runs a recipe and prints its log and ending
+  timeline  draws a run as an SVG picture
+
+FILE may be left out or \"-\" for standard input. A name that ends in \".recipe\"
+is text and is assembled first; any other file, and standard input, is a table
+(for asm always text).
+\"recipe SUBCOMMAND --help\" tells more.
+
+exit status: 0 all went well
+             1 the input is refused or at fault
+             2 the command line is wrong, or a file cannot be read or written
+             3 run --strict: the ending is not \"finished\"
+";
+
+const ASM: &str = "\
+usage: recipe asm [FILE] [-o OUT]
+
+Assembles text into a table, has it checked and writes it to OUT (standard
+output if left out or \"-\"). Nothing is written if a fault is found.
+
+The text is in one of two notations. A \"#\" begins a comment in both.
+
+1. The table's own: items kind(name,span,value), separated by white space.
+
+    1(0,1,0)        # a procedure that encloses one record
+        7(0,0,0)    # suspend
+
+2. The readable one:
+
+    variable pressure 12          # a variable with a number of one's own
+    procedure main                # the first procedure is the main one
+        spawn presser press 5     # the new task's number goes into \"presser\"
+        await presser             # until that task is done
+        set valve0 1
+    procedure press p             # p is the task's parameter
+        set valve1 p
+        while pressure < 3 and not valve2
+            set pressure pressure + 1
+            suspend               # back of the ready queue
+
+  Bodies are indented with spaces; a body may be empty. Statements:
+
+    set NAME EXPRESSION     spawn NAME PROCEDURE EXPRESSION     skip
+    if EXPRESSION           await NAME                          suspend
+    while EXPRESSION
+
+  Expressions, from the tightest: -x, * /, + -, < ==, not, and, or, with
+  parentheses. Constants are -2147483648 to 2147483647; the minus sign of
+  a constant stands directly before it, and -(5) is the negation of 5.
+
+  valve0 to valve7 are the variables 0 to 7. Other variables get numbers from
+  8 up in the order of their first use, at most 56 of them; \"variable NAME
+  NUMBER\" gives one a number from 0 to 63. The parameter is called
+  \"parameter\" unless the procedure's line names it. A name means one thing in
+  the whole text; only parameters may share theirs. Procedures may be used
+  before they are defined; the first 256 can be spawned.
+";
+
+const DIS: &str = "\
+usage: recipe dis [FILE] [--raw]
+
+Prints a table in the readable notation of \"recipe asm\". The text assembles to
+the same table, byte for byte. Of a refused table only the fault is told.
+
+  --raw   the table's own notation, one record a line, indented by depth; also
+          for a refused table, with its fault marked (exit status 1 as well)
+";
+
+const CHECK: &str = "\
+usage: recipe check [FILE]
+
+Tells whether a table is accepted, with its records, procedures and depth, or
+the fault and the record that has it (exit status 1). Text whose name ends in
+\".recipe\" is assembled first.
+";
+
+const RUN: &str = "\
+usage: recipe run [FILE] [OPTIONS]
+
+Runs a table, or text whose name ends in \".recipe\". Prints a line for each log
+record (kind, task, valve, value), then the ending and the steps; or \"refused\"
+with number and place (exit status 1).
+
+  --budget N        the most steps, 0 to 4294967295 (10000)
+  --log RECORDS     the log's room, 0 to 16777216 records (4096)
+  --resume STATE    begins with the state saved in this file
+  --save STATE      writes the state after the call, 520 bytes
+  --quiet           leaves the log records out
+  --strict          exit status 3 if the ending is not \"finished\"
+
+endings: finished  no task is left
+         stuck     every task waits, and none can ever go on
+         paused    the budget is used up
+         tasks     the next step is a spawn, and 32 tasks are live
+         spent     the next step is a spawn, and 65535 numbers are issued
+         logfull   the next step writes a record, and the log is full
+";
+
+const TIMELINE: &str = "\
+usage: recipe timeline [FILE] [OPTIONS]
+
+Runs a table, or text whose name ends in \".recipe\", and draws what each task
+does as an SVG picture: a lane for each task, time from left to right in log
+records.
+
+  --budget N        the most steps, 0 to 4294967295 (10000)
+  --log RECORDS     the log's room, 0 to 65536 records (4096)
+  -o OUT            the picture's file (standard output)
+";
+
+#[cfg(test)]
+mod tests {
+    use super::*;
+    use crate::asm::assemble;
+
+    #[test]
+    fn the_examples_can_be_assembled() {
+        let examples: Vec<&str> = ASM.split("\n\n").filter(|part| part.starts_with("    ")).collect();
+        let [raw, readable, _statements] = examples[..] else {
+            panic!("{examples:?}");
+        };
+        assert_eq!(assemble(raw).unwrap().len(), 16);
+        let text: String = readable.lines().map(|line| format!("{}\n", &line[4..])).collect();
+        assert!(assemble(&text).is_ok(), "{text}");
+    }
+}

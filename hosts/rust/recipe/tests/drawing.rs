@@ -1,0 +1,163 @@
+//! The picture of a run: well-formed, and no text over another.
+
+mod common;
+
+use recipe::asm::assemble;
+use recipe::picture::{draw, Heading};
+use recipe::timeline::Timeline;
+use recipe_runner::{records, State};
+
+const TWO: &str = "procedure main\n  spawn x press 5\n  await x\n  set valve0 1\nprocedure press p\n  set valve1 p\n";
+
+/// Twelve tasks that set valves, give way and wait.
+const TWELVE: &str = "\
+variable pressure 12
+procedure main
+    while count < 5
+        spawn drum roll count + 2
+        spawn membrane pump count
+        set count count + 1
+    spawn watcher watch membrane
+    await watcher
+    set valve0 1
+    set valve7 -2147483648
+procedure roll turns
+    while 0 < turns
+        set valve1 turns
+        suspend
+        set turns turns - 1
+procedure pump level
+    while pressure < 12 + level
+        set pressure pressure + 1
+        set valve2 pressure
+        if pressure / 3 * 3 == pressure
+            suspend
+    set valve4 1
+    set valve5 level
+procedure watch other
+    await other
+    set valve6 1
+";
+
+/// Thirty-two tasks in a chain of waits, a few hundred records.
+const MANY: &str = "\
+procedure main
+    while n < 31
+        spawn last work last
+        set n n + 1
+    await last
+procedure work before
+    set valve1 before
+    if 1 < before
+        await before
+    set valve2 -before * 1000000
+    set valve3 2147483647
+";
+
+/// Many short waits of one task, one after the other.
+const SHORT: &str = "\
+procedure main
+    while n < 31
+        spawn last work n
+        await last
+        set n n + 1
+procedure work
+    skip
+";
+
+fn picture(text: &str, budget: u32) -> (String, Timeline) {
+    let table = assemble(text).unwrap();
+    let mut log = vec![0; 8 * 4_096];
+    let ran = State::start(&table).unwrap().run(&table, budget, &mut log).unwrap();
+    let timeline = Timeline::of(records(&log, ran.records), ran.ending);
+    let heading = Heading { name: "a<b&c>.recipe", ending: ran.ending, steps: ran.steps, budget };
+    (draw(&timeline, &heading), timeline)
+}
+
+/// Holds a document to matching tags.
+fn well_formed(document: &str) {
+    let mut open = Vec::new();
+    for piece in document.split('<').skip(1) {
+        let (tag, text) = piece.split_once('>').unwrap();
+        assert!(!text.contains('>') || open.last() == Some(&"style"), "{text}");
+        match tag.strip_prefix('/') {
+            Some(name) => assert_eq!(open.pop(), Some(name)),
+            None if tag.ends_with('/') => {}
+            None => open.push(tag.split(' ').next().unwrap()),
+        }
+        assert_eq!(tag.matches('"').count() % 2, 0, "{tag}");
+    }
+    assert!(open.is_empty(), "{open:?}");
+}
+
+fn attribute(element: &str, name: &str) -> f64 {
+    let (_, rest) = element.split_once(&format!(" {name}=\"")).unwrap();
+    rest.split('"').next().unwrap().parse().unwrap()
+}
+
+/// The boxes of the texts: left, top, right, bottom, and the text.
+fn boxes(document: &str) -> Vec<(f64, f64, f64, f64, String)> {
+    let texts = document.split("<text ").skip(1).map(|element| element.split("</text>").next().unwrap());
+    let boxed = texts.map(|element| {
+        let (head, text) = element.split_once('>').unwrap();
+        let class = head.split('"').nth(1).unwrap();
+        let size = match class {
+            "title" => 17.0,
+            "tick" | "note" | "flagtext" => 10.0,
+            _ => 12.0,
+        };
+        let text = text.replace("&lt;", "<").replace("&gt;", ">").replace("&amp;", "&");
+        let width = text.chars().count() as f64 * size * 0.6;
+        let (x, y) = (attribute(&format!(" {head}"), "x"), attribute(&format!(" {head}"), "y"));
+        let left = match class {
+            "label" => x - width,
+            "tick" => x - width / 2.0,
+            _ => x,
+        };
+        (left, y - 0.8 * size, left + width, y + 0.2 * size, text)
+    });
+    boxed.collect()
+}
+
+fn apart(document: &str) {
+    let (width, height) = (attribute(document, "width"), attribute(document, "height"));
+    let boxes = boxes(document);
+    for (index, a) in boxes.iter().enumerate() {
+        assert!(a.0 >= 0.0 && a.1 >= 0.0 && a.2 <= width && a.3 <= height, "{a:?} is outside");
+        for b in boxes.iter().take(index) {
+            assert!(a.2 <= b.0 || b.2 <= a.0 || a.3 <= b.1 || b.3 <= a.1, "{a:?} over {b:?}");
+        }
+    }
+}
+
+#[test]
+fn pictures_are_well_formed_and_texts_apart() {
+    for (text, budget, tasks) in
+        [(TWO, 100, 2), (TWO, 0, 1), (TWELVE, 10_000, 12), (MANY, 10_000, 32), (MANY, 150, 32), (SHORT, 10_000, 32)]
+    {
+        let (document, timeline) = picture(text, budget);
+        assert_eq!(timeline.lanes.len(), tasks);
+        well_formed(&document);
+        apart(&document);
+    }
+}
+
+#[test]
+fn the_picture_tells_what_happened() {
+    let (document, _) = picture(TWO, 100);
+    for part in [
+        "a&lt;b&amp;c&gt;.recipe: finished, 8 steps",
+        ">task 1<",
+        ">task 2<",
+        ">v0=1<",
+        ">v1=5<",
+        ">awaits 2<",
+        "task 1 spawns task 2",
+        "task 2 ended",
+        "log records",
+    ] {
+        assert!(document.contains(part), "{part}");
+    }
+    let (document, _) = picture(MANY, 10_000);
+    assert!(document.contains("turned: "));
+}
