@@ -23,10 +23,10 @@ pub fn verdict(table: &[u8], state: &[u8]) -> Verdict
     ensures { λ r. ⌜ verdictOf r ≡ (check (now (table .entry)) else checkBlock (isPlace (recipeOf (now (table .entry)))) (now (state .entry))) ⌝ }
 {
     let v = check_table(table);
-    match v {
-        Verdict::Fault { number, place } => Verdict::Fault { number, place },
-        Verdict::Fine => block::check(table, state),
+    if v.number != 0 {
+        return v;
     }
+    block::check(table, state)
 }
 
 // The number of an ending.

@@ -9,7 +9,6 @@ use crate::call::carry_out;
 use crate::call::verdict;
 use state::block;
 use state::fresh;
-use table::check::Verdict;
 use table::check::check_table;
 ghost use mathlib.Core.Path.{_≡_};
 ghost use Rattle.rules.specs.Run.{startOn, runOn};
@@ -38,24 +37,22 @@ pub fn start(table: &[u8], state: &mut [u8]) -> Started
     ensures { λ r. ⌜ StartAnswers (now (state .entry)) (startedOf r (now (state .exit))) ⌝ }
 {
     let v = check_table(table);
-    match v {
-        Verdict::Fault { number, place } => Started {
-            number: number as u32,
-            place: place as u32,
-        },
-        Verdict::Fine => {
-            if state.len() != 520 {
-                return Started {
-                    number: 21,
-                    place: 0,
-                };
-            }
-            block::write(fresh(), state);
-            Started {
-                number: 0,
-                place: 0,
-            }
-        }
+    if v.number != 0 {
+        return Started {
+            number: v.number,
+            place: v.place,
+        };
+    }
+    if state.len() != 520 {
+        return Started {
+            number: 21,
+            place: 0,
+        };
+    }
+    block::write(fresh(), state);
+    Started {
+        number: 0,
+        place: 0,
     }
 }
 
@@ -67,15 +64,15 @@ pub fn run(table: &[u8], state: &mut [u8], budget: u32, log: &mut [u8]) -> Answe
     ensures { λ r. ⌜ ContinuesAsOne (now (table .entry)) (now (state .entry)) (called budget (now (log .entry)) r (now (state .exit)) (now (log .exit))) ⌝ }
 {
     let v = verdict(table, state);
-    match v {
-        Verdict::Fault { number, place } => Answer {
-            number: number as u32,
+    if v.number != 0 {
+        return Answer {
+            number: v.number,
             steps: 0,
             records: 0,
-            place: place as u32,
-        },
-        Verdict::Fine => carry_out(table, state, budget, log),
+            place: v.place,
+        };
     }
+    carry_out(table, state, budget, log)
 }
 
 // The C interface: a slice is a pointer and a length.

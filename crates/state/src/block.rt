@@ -136,14 +136,17 @@ fn check_records(table: &[u8], block: &[u8]) -> Verdict
     let mut i: usize = 0;
     while i < 33 {
         if !record_fits(table, block, i) {
-            return Verdict::Fault {
+            return Verdict {
                 number: 22,
                 place: i as u32,
             };
         }
         i += 1;
     }
-    Verdict::Fine
+    Verdict {
+        number: 0,
+        place: 0,
+    }
 }
 
 // As many live tasks as numbers issued, or fewer.
@@ -152,9 +155,12 @@ fn check_numbers(block: &[u8]) -> Verdict
     ensures { λ r. ⌜ verdictOf r ≡ cond (leb (liveIn (now (block .entry))) (issuedIn (now (block .entry)))) fine (fault 23 0) ⌝ }
 {
     if wide(block[2]) <= half_at(block, 0) as usize {
-        return Verdict::Fine;
+        return Verdict {
+            number: 0,
+            place: 0,
+        };
     }
-    Verdict::Fault {
+    Verdict {
         number: 23,
         place: 0,
     }
@@ -166,16 +172,16 @@ pub fn check(table: &[u8], block: &[u8]) -> Verdict
     ensures { λ r. ⌜ verdictOf r ≡ checkBlock (isPlace (recipeOf (now (table .entry)))) (now (block .entry)) ⌝ }
 {
     if block.len() != 520 {
-        return Verdict::Fault {
+        return Verdict {
             number: 21,
             place: 0,
         };
     }
     let records = check_records(table, block);
-    match records {
-        Verdict::Fault { number, place } => Verdict::Fault { number, place },
-        Verdict::Fine => check_numbers(block),
+    if records.number != 0 {
+        return records;
     }
+    check_numbers(block)
 }
 
 // ---- reading

@@ -2,12 +2,13 @@
 -- Assumes nothing.
 use Prim.Native.Nat.{ℕ, zero, suc, _+_, _*_, _%_, _≤_, _<_}
 use mathlib.Core.Path.{_≡_}
+use mathlib.Core.Bool.{cond}
+use lib.Dec.{eqb}
 use mathlib.Core.List.{List, [], map}
 use lib.ListN.{length}
 use Rattle.rules.specs.Table as T
 use Rattle.rules.specs.Table.{Encloses, nothing, one-expression, expression-statements, two-expressions, Field, unused, procedure-number, any, kinds, kindRow, kindOf, spanOf, inner, after, recordFault, unless, checkE}
 use Rattle.table.specs.declared.check.Verdict.{Verdict}
-use Rattle.table.specs.declared.check.Verdict.the-variants.{Fine, Fault}
 use Rattle.table.specs.declared.check.Sort.{Sort}
 use Rattle.table.specs.declared.check.Sort.the-variants.{Procedure, Statement, Expression}
 use Rattle.table.specs.declared.check.Ends.{Ends}
@@ -73,8 +74,7 @@ endsOf Within = T.within
 
 -- the number and the place of each answer
 abbrev pub verdictOf : Verdict → T.Verdict
-verdictOf Fine = T.fine
-verdictOf (Fault n i) = T.fault n i
+verdictOf v = cond (eqb (v .number) 0) T.fine (T.fault (v .number) (v .place))
 
 -- whole records at index i within the table; at least one of them
 pub record Row (i : ℕ) (p : List ℕ) : Type 0 where

@@ -15,10 +15,10 @@ ghost use Rattle.rules.specs.Fields.{signed};
 ghost use lib.IntN.{natAbs};
 ghost use Rattle.table.specs.Check.{nameLeasts, nameMosts, spanLeasts, spanMosts, codeOf, codes, enclosing, valueMosts, sortOf, endsOf, verdictOf, Part, Row, OfRow, headOf, body, bodyAt, Parted};
 
-// What checking finds.
-pub enum Verdict {
-    Fine,
-    Fault { number: u8, place: u32 },
+// What checking finds: the number and the place of a fault, or the number 0 where there is none.
+pub struct Verdict {
+    pub number: u32,
+    pub place: u32,
 }
 
 // What is due where a record stands.
@@ -261,33 +261,34 @@ pub fn check_expr(part: &[u8], at: usize, left: usize, ends: Ends) -> Verdict
 {
     let number = record_fault(part, Sort::Expression, ends);
     if number != 0 {
-        return Verdict::Fault {
-            number,
+        return Verdict {
+            number: number as u32,
             place: at as u32,
         };
     }
     if left == 0 {
-        return Verdict::Fault {
+        return Verdict {
             number: 16,
             place: at as u32,
         };
     }
     let kind = part[0];
     if kind < 11 {
-        return Verdict::Fine;
+        return Verdict {
+            number: 0,
+            place: 0,
+        };
     }
     let inner = enclosed(part);
     if kind == 12 {
         return check_expr(inner, at + 1, left - 1, Ends::AtEnd);
     }
     let first = check_expr(inner, at + 1, left - 1, Ends::BeforeEnd);
-    match first {
-        Verdict::Fault { number, place } => Verdict::Fault { number, place },
-        Verdict::Fine => {
-            let next = at + 2 + span_of(inner);
-            check_expr(beyond(inner), next, left - 1, Ends::AtEnd)
-        }
+    if first.number != 0 {
+        return first;
     }
+    let next = at + 2 + span_of(inner);
+    check_expr(beyond(inner), next, left - 1, Ends::AtEnd)
 }
 
 // The first record of a row, with the expression that it encloses if any.
@@ -297,13 +298,13 @@ fn check_head(part: &[u8], sort: Sort, at: usize, left: usize) -> Verdict
 {
     let number = record_fault(part, sort, Ends::Within);
     if number != 0 {
-        return Verdict::Fault {
-            number,
+        return Verdict {
+            number: number as u32,
             place: at as u32,
         };
     }
     if left == 0 {
-        return Verdict::Fault {
+        return Verdict {
             number: 16,
             place: at as u32,
         };
@@ -315,7 +316,10 @@ fn check_head(part: &[u8], sort: Sort, at: usize, left: usize) -> Verdict
     if code == 3 {
         return check_expr(enclosed(part), at + 1, left - 1, Ends::Within);
     }
-    Verdict::Fine
+    Verdict {
+        number: 0,
+        place: 0,
+    }
 }
 
 // The statements that a record of a row encloses.
@@ -358,24 +362,21 @@ pub fn check_rows(part: &[u8], sort: Sort, at: usize, left: usize) -> Verdict
     while off < part.len() {
         let rest = from(part, off);
         let head = check_head(rest, sort, i, left);
-        match head {
-            Verdict::Fault { number, place } => {
-                return Verdict::Fault { number, place };
-            }
-            Verdict::Fine => {}
+        if head.number != 0 {
+            return head;
         }
         let inside = check_rows(body_of(rest), Sort::Statement, body_at(rest, i), left - 1);
-        match inside {
-            Verdict::Fault { number, place } => {
-                return Verdict::Fault { number, place };
-            }
-            Verdict::Fine => {}
+        if inside.number != 0 {
+            return inside;
         }
         let span = span_of(rest);
         off = off + 8 + 8 * span;
         i = i + 1 + span;
     }
-    Verdict::Fine
+    Verdict {
+        number: 0,
+        place: 0,
+    }
 }
 
 // How many records of a table are procedures.
@@ -424,7 +425,7 @@ fn check_spawns(table: &[u8], n: usize) -> Verdict
     let mut i: usize = 0;
     while off < table.len() {
         if names_none(from(table, off), n) {
-            return Verdict::Fault {
+            return Verdict {
                 number: 17,
                 place: i as u32,
             };
@@ -432,7 +433,10 @@ fn check_spawns(table: &[u8], n: usize) -> Verdict
         off += 8;
         i += 1;
     }
-    Verdict::Fine
+    Verdict {
+        number: 0,
+        place: 0,
+    }
 }
 
 // A whole table, of any content and length.
@@ -441,7 +445,7 @@ pub fn check_table(table: &[u8]) -> Verdict
 {
     let len = table.len();
     if !length_fits(len) {
-        return Verdict::Fault {
+        return Verdict {
             number: 11,
             place: 0,
         };
@@ -455,10 +459,10 @@ pub fn check_table(table: &[u8]) -> Verdict
 fn earlier(first: Verdict, second: Verdict) -> Verdict
     ensures { λ r. ⌜ verdictOf r ≡ (verdictOf first else verdictOf second) ⌝ }
 {
-    match first {
-        Verdict::Fault { number, place } => Verdict::Fault { number, place },
-        Verdict::Fine => second,
+    if first.number != 0 {
+        return first;
     }
+    second
 }
 
 fn length_fits(len: usize) -> bool

@@ -1,5 +1,5 @@
-use mathlib.Core.Path.{sym, ap, _∙_}
-use Rattle.table.specs.Check.{verdictOf}
+use mathlib.Core.Path.{sym, _∙_}
+use Rattle.table.proofs.Told.{none-told, fault-told}
 use Rattle.state.proofs.Checking.{wrong-length, records-fault, numbers-decide}
 use borrow.Author.Needs.{needs}
 use Rattle.state.proofs.block.check.Statement.{statement}
@@ -11,37 +11,24 @@ returns c = wrong-length _ (c .before .before .before .args .block .now) (c .if1
 check-records-requires : tie.Need-check-records-requires
 check-records-requires c κs = search needs
 
-enum-known-records : tie.Need-enum-known-records
-enum-known-records c = search needs
-
-enum-told : tie.Need-enum-told
-enum-told c = search needs
+returns-2 : tie.Need-returns-2
+returns-2 c =
+    let r = c .before .before in
+    let e = r .before in
+    let f = fault-told (r .check-records .result) (c .if2 .taken) in
+    f ∙ records-fault _ (e .before .before .before .args .block .now) (e .if1 .left) (sym (r .check-records .ensures) ∙ f)
 
 check-numbers-requires : tie.Need-check-numbers-requires
 check-numbers-requires c κs = search needs
-
-returns-2 : tie.Need-returns-2
-returns-2 c =
-    let r = c .before .before .before in
-    let e = r .before in
-    let some = sym (r .check-records .ensures) ∙ ap verdictOf (c .before .records .given .1) in
-    records-fault _ (e .before .before .before .args .block .now) (e .if1 .left) some
 
 returns-3 : tie.Need-returns-3
 returns-3 c =
     let r = c .before .before .before in
     let e = r .before in
-    let none = sym (r .check-records .ensures) ∙ ap verdictOf (c .before .enum-told .given .1) in
+    let none = sym (r .check-records .ensures) ∙ none-told (r .check-records .result) (c .before .if2 .left) in
     c .check-numbers .ensures ∙ numbers-decide _ (e .before .before .before .args .block .now) (e .if1 .left) none
 
 pub check-spec : {M : Type 1} → statement M
 check-spec =
     tie.close
-    (tie.spec
-    returns
-    check-records-requires
-    enum-known-records
-    enum-told
-    check-numbers-requires
-    returns-2
-    returns-3)
+    (tie.spec returns check-records-requires returns-2 check-numbers-requires returns-3)

@@ -7,6 +7,7 @@ use Rattle.rules.specs.Table.{kindOf, inner, expression, at-end, before-end, re
 use Rattle.rules.proofs.Grammar.Checking.{Right, right, right-whole, operands}
 use Rattle.rules.proofs.Grammar.Accepting.{right-of}
 use Rattle.table.specs.Check.{endsOf, verdictOf, Part}
+use Rattle.table.proofs.Told.{none-told, fault-told}
 use Rattle.table.proofs.Expressions.{level-own, level-none, level-below, expr-levels, kind-bounds, leaf, sole, first-fault, second, inner-part, operator-span, after-part}
 use Prim.Native.Nat.{ℕ, _+_, _-_, _<_}
 use borrow.Fn.Kinds.{In}
@@ -76,10 +77,10 @@ module _ (t : ℕ) where
   first2 c = sym (c .check-expr2 .ensures ∙ ap (checkE _ _ before-end) (c .before .before .enclosed .ensures))
 
   abbrev Passed : Type 0
-  Passed = check-expr-lts.After-enum-told (callees t) (check-expr-at t) check-expr.Post
+  Passed = check-expr-lts.Else5 (callees t) (check-expr-at t) check-expr.Post
 
   fine2 : (c : Passed) → checkE (start2 (c .before .before) .args .left - 1) (start2 (c .before .before) .args .at + 1) before-end (inner (now (start2 (c .before .before) .args .part))) ≡ fine
-  fine2 c = first2 (c .before .before) ∙ ap verdictOf (c .enum-told .given .1)
+  fine2 c = first2 (c .before .before) ∙ none-told (c .before .before .check-expr2 .result) (c .if5 .left)
 
   right2 : (c : Passed) → Right expression before-end (now (c .before .before .before .before .enclosed .result))
   right2 c = rw (c .before .before .before .before .enclosed .ensures) (right-of _ _ before-end _ (fine2 c))
@@ -87,17 +88,21 @@ module _ (t : ℕ) where
   record-fault-requires : check-expr-lts.Need-record-fault-requires (callees t) (check-expr-at t) check-expr.Post
   record-fault-requires c κs = c .before .pre .1 .some
 
-  cast-t14 : check-expr-lts.Need-cast-t14 (callees t) (check-expr-at t) check-expr.Post
-  cast-t14 c = omega (arith, c .before .before .before .pre .1 .row .placed)
+  cast-t12 : check-expr-lts.Need-cast-t12 (callees t) (check-expr-at t) check-expr.Post
+  cast-t12 c = search needs
+
+  cast-t13 : check-expr-lts.Need-cast-t13 (callees t) (check-expr-at t) check-expr.Post
+  cast-t13 c = omega (arith, c .before .before .before .pre .1 .row .placed)
 
   returns : check-expr-lts.Need-returns (callees t) (check-expr-at t) check-expr.Post
   returns c =
       let s = c .before .before .before in
       let e = c .before .record-fault .ensures in
-      rw e (level-own _ (s .args .left) (s .args .at) _ (λ z. c .if1 .taken (e ∙ z)) ∙ expr-levels _ _ (endsOf (s .args .ends)) (now (s .args .part)))
+      fault-told (record { number = c .before .record-fault .result; place = s .args .at }) (c .if1 .taken)
+      ∙ rw e (level-own _ (s .args .left) (s .args .at) _ (λ z. c .if1 .taken (e ∙ z)) ∙ expr-levels _ _ (endsOf (s .args .ends)) (now (s .args .part)))
 
-  cast-t15 : check-expr-lts.Need-cast-t15 (callees t) (check-expr-at t) check-expr.Post
-  cast-t15 c = omega (arith, c .before .before .before .before .pre .1 .row .placed)
+  cast-t14 : check-expr-lts.Need-cast-t14 (callees t) (check-expr-at t) check-expr.Post
+  cast-t14 c = omega (arith, c .before .before .before .before .pre .1 .row .placed)
 
   returns-2 : check-expr-lts.Need-returns-2 (callees t) (check-expr-at t) check-expr.Post
   returns-2 c =
@@ -141,12 +146,6 @@ module _ (t : ℕ) where
   check-expr-requires-2 : check-expr-lts.Need-check-expr-requires-2 (callees t) (check-expr-at t) check-expr.Post
   check-expr-requires-2 c κs = asked3 (c .before)
 
-  enum-known-first : check-expr-lts.Need-enum-known-first (callees t) (check-expr-at t) check-expr.Post
-  enum-known-first c = search needs
-
-  enum-told : check-expr-lts.Need-enum-told (callees t) (check-expr-at t) check-expr.Post
-  enum-told c = search needs
-
   add-next : check-expr-lts.Need-add-next (callees t) (check-expr-at t) check-expr.Post
   add-next c = omega (arith, start2 (c .before .before) .pre .1 .row .placed)
 
@@ -170,9 +169,10 @@ module _ (t : ℕ) where
 
   returns-5 : check-expr-lts.Need-returns-5 (callees t) (check-expr-at t) check-expr.Post
   returns-5 c =
-      let k = c .before .before .before in
+      let k = c .before .before in
       let s = start2 k in
-      first-fault _ (s .args .at) (now (s .args .part)) (eleven (k .before .before .before) (k .before .if4 .left)) (first2 k ∙ ap verdictOf (c .before .first .given .1)) ∙ deep3 (k .before .before .before)
+      let f = fault-told (k .check-expr2 .result) (c .if5 .taken) in
+      f ∙ first-fault _ (s .args .at) (now (s .args .part)) (eleven (k .before .before .before) (k .before .if4 .left)) (first2 k ∙ f) ∙ deep3 (k .before .before .before)
 
   returns-6 : check-expr-lts.Need-returns-6 (callees t) (check-expr-at t) check-expr.Post
   returns-6 c =
@@ -187,9 +187,10 @@ pub +check-expr-spec : {M : Type 1} → statement M
     (check-expr-at t)
     check-expr.Post
     (record-fault-requires t)
-    (cast-t14 t)
+    (cast-t12 t)
+    (cast-t13 t)
     (returns t)
-    (cast-t15 t)
+    (cast-t14 t)
     (returns-2 t)
     (shared-slice-read-kind t)
     (returns-3 t)
@@ -201,13 +202,11 @@ pub +check-expr-spec : {M : Type 1} → statement M
     (add-check-expr-2 t)
     (sub-check-expr-2 t)
     (check-expr-requires-2 t)
-    (enum-known-first t)
-    (enum-told t)
+    (returns-5 t)
     (add-next t)
     (span-of-requires t)
     (add-next-2 t)
     (beyond-requires t)
     (sub-check-expr-3 t)
     (check-expr-requires-3 t)
-    (returns-5 t)
     (returns-6 t)

@@ -7,6 +7,7 @@ use lib.ListN.{length, drop}
 use Rattle.rules.specs.Table as T
 use Rattle.rules.specs.Table.{spanOf, fine, checkRows}
 use Rattle.table.specs.Check.{sortOf, verdictOf, OfRow, statements, Part, headOf, body, bodyAt}
+use Rattle.table.proofs.Told.{none-told, fault-told}
 use Rattle.table.proofs.Rows.{HeadFine, head-fine, parted, body-row, Left, left-start, left-end, left-part, left-head, left-inside, left-next}
 use Prim.Native.Nat.{ℕ, _+_, _-_, _*_, _<_}
 use borrow.Fn.Kinds.{In}
@@ -70,13 +71,13 @@ module _ (t : ℕ) where
   head-is c = sym (c .check-head .ensures ∙ ap (headOf _ _ _) (c .before .from .ensures))
 
   abbrev Passed : Type 0
-  Passed = check-rows-lts.After-enum-told (callees t) (check-rows-at t) check-rows.Post Inv-loop μ-loop
+  Passed = check-rows-lts.Else1 (callees t) (check-rows-at t) check-rows.Post Inv-loop μ-loop
 
   abbrev here : Passed → Here
   here c = c .before .before .before
 
   passed : (c : Passed) → headOf (sortOf (start (here c) .args .sort)) (start (here c) .args .left) (here c .before .before .loop .i) (rest (here c)) ≡ fine
-  passed c = head-is (c .before .before) ∙ ap verdictOf (c .enum-told .given .1)
+  passed c = head-is (c .before .before) ∙ none-told (c .before .before .check-head .result) (c .if1 .left)
 
   fine-here : (c : Passed) → HeadFine (sortOf (start (here c) .args .sort)) (start (here c) .args .left) (here c .before .before .loop .i) (rest (here c))
   fine-here c = head-fine _ _ _ (rest (here c)) (passed c)
@@ -100,7 +101,7 @@ module _ (t : ℕ) where
   next : (c : Last) → Left (sortOf (start (here (c .before .before .before .before .before .before)) .args .sort)) (start (here (c .before .before .before .before .before .before)) .args .left) (start (here (c .before .before .before .before .before .before)) .args .at) (now (start (here (c .before .before .before .before .before .before)) .args .part)) (here (c .before .before .before .before .before .before) .before .before .loop .off + 8 + 8 * spanOf (rest (here (c .before .before .before .before .before .before)))) (here (c .before .before .before .before .before .before) .before .before .loop .i + 1 + spanOf (rest (here (c .before .before .before .before .before .before))))
   next c =
       let k = c .before .before .before .before .before .before in
-      left-next (of-row (here k)) (left (here k)) (here k .before .loop-test .taken) (passed k) (inside-is (c .before .before .before) ∙ ap verdictOf (c .before .enum-told2 .given .1))
+      left-next (of-row (here k)) (left (here k)) (here k .before .loop-test .taken) (passed k) (inside-is (c .before .before .before) ∙ none-told (c .before .before .before .check-rows .result) (c .before .if2 .left))
 
   loop-holds : check-rows-lts.Need-loop-holds (callees t) (check-rows-at t) check-rows.Post Inv-loop μ-loop
   loop-holds c = left-start _ _ _ _ (c .before .pre .1 .0)
@@ -111,16 +112,11 @@ module _ (t : ℕ) where
   check-head-requires : check-rows-lts.Need-check-head-requires (callees t) (check-rows-at t) check-rows.Post Inv-loop μ-loop
   check-head-requires c κs = rw (c .from .ensures) (part-here c, of-row c)
 
-  enum-known-head : check-rows-lts.Need-enum-known-head (callees t) (check-rows-at t) check-rows.Post Inv-loop μ-loop
-  enum-known-head c = search needs
-
   returns : check-rows-lts.Need-returns (callees t) (check-rows-at t) check-rows.Post Inv-loop μ-loop
   returns c =
-      let k = c .before .before .before .before in
-      left-head (of-row k) (left k) (k .before .loop-test .taken) (head-is (c .before .before .before) ∙ ap verdictOf (c .before .head .given .1))
-
-  enum-told : check-rows-lts.Need-enum-told (callees t) (check-rows-at t) check-rows.Post Inv-loop μ-loop
-  enum-told c = search needs
+      let k = c .before .before .before in
+      let f = fault-told (c .before .before .check-head .result) (c .if1 .taken) in
+      f ∙ left-head (of-row k) (left k) (k .before .loop-test .taken) (head-is (c .before .before) ∙ f)
 
   body-of-requires : check-rows-lts.Need-body-of-requires (callees t) (check-rows-at t) check-rows.Post Inv-loop μ-loop
   body-of-requires c κs = rw (here c .from .ensures) (parted (fine-here c))
@@ -138,16 +134,11 @@ module _ (t : ℕ) where
       let f = fine-here k .levels in
       (omega (arith, start (here k) .pre .0), (rw (c .body-at .ensures, c .before .body-of .ensures, e) (body-row (part-here (here k)) (fine-here k)), statements))
 
-  enum-known-inside : check-rows-lts.Need-enum-known-inside (callees t) (check-rows-at t) check-rows.Post Inv-loop μ-loop
-  enum-known-inside c = search needs
-
   returns-2 : check-rows-lts.Need-returns-2 (callees t) (check-rows-at t) check-rows.Post Inv-loop μ-loop
   returns-2 c =
-      let k = c .before .before .before .before .before .before in
-      left-inside (of-row (here k)) (left (here k)) (here k .before .loop-test .taken) (passed k) (inside-is (c .before .before .before) ∙ ap verdictOf (c .before .inside .given .1))
-
-  enum-told-2 : check-rows-lts.Need-enum-told-2 (callees t) (check-rows-at t) check-rows.Post Inv-loop μ-loop
-  enum-told-2 c = search needs
+      let k = c .before .before .before .before .before in
+      let f = fault-told (c .before .before .check-rows .result) (c .if2 .taken) in
+      f ∙ left-inside (of-row (here k)) (left (here k)) (here k .before .loop-test .taken) (passed k) (inside-is (c .before .before) ∙ f)
 
   span-of-requires : check-rows-lts.Need-span-of-requires (callees t) (check-rows-at t) check-rows.Post Inv-loop μ-loop
   span-of-requires c κs = rw (here (c .before .before .before .before .before) .from .ensures) (part-here (here (c .before .before .before .before .before)) .some)
@@ -185,16 +176,12 @@ pub +check-rows-spec : {M : Type 1} → statement M
     (loop-holds t)
     (from-requires t)
     (check-head-requires t)
-    (enum-known-head t)
     (returns t)
-    (enum-told t)
     (body-of-requires t)
     (body-at-requires t)
     (sub-check-rows t)
     (check-rows-requires t)
-    (enum-known-inside t)
     (returns-2 t)
-    (enum-told-2 t)
     (span-of-requires t)
     (add-off t)
     (mul-off t)

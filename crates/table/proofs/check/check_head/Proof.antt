@@ -5,6 +5,7 @@ use denote.Ref.{now}
 use Rattle.rules.specs.Table.{inner, at-end, within, recordFault, checkE}
 use Rattle.rules.proofs.Grammar.Checking.{Right, right, right-whole}
 use Rattle.table.specs.Check.{sortOf, enclosing, codeOf, Part}
+use Rattle.table.proofs.Told.{fault-told}
 use Rattle.table.proofs.Columns.{due-kind}
 use Rattle.table.proofs.Expressions.{inner-part}
 use Rattle.table.proofs.Rows.{head-own, head-none, head-below, expr-alone, expr-test, no-expr, some-span}
@@ -42,15 +43,19 @@ record-fault-requires : tie.Need-record-fault-requires
 record-fault-requires c κs = search needs
 
 cast-t9 : tie.Need-cast-t9
-cast-t9 c = let h = c .before .before .before .pre .0 .row .placed in omega arith
+cast-t9 c = search needs
+
+cast-t10 : tie.Need-cast-t10
+cast-t10 c = let h = c .before .before .before .pre .0 .row .placed in omega arith
 
 returns : tie.Need-returns
 returns c = let s = c .before .before .before in
     let e = c .before .record-fault .ensures in
-    rw e (head-own (sortOf (s .args .sort)) (s .args .left) (s .args .at) (now (s .args .part)) (λ z. c .if1 .taken (e ∙ z)))
+    fault-told (record { number = c .before .record-fault .result; place = s .args .at }) (c .if1 .taken)
+    ∙ rw e (head-own (sortOf (s .args .sort)) (s .args .left) (s .args .at) (now (s .args .part)) (λ z. c .if1 .taken (e ∙ z)))
 
-cast-t10 : tie.Need-cast-t10
-cast-t10 c = let h = c .before .before .before .before .pre .0 .row .placed in omega arith
+cast-t11 : tie.Need-cast-t11
+cast-t11 c = let h = c .before .before .before .before .pre .0 .row .placed in omega arith
 
 returns-2 : tie.Need-returns-2
 returns-2 c = let s = c .before .before .before .before in head-none (sortOf (s .args .sort)) (s .args .left) (s .args .at) (now (s .args .part)) (sym (c .before .before .record-fault .ensures) ∙ c .before .if1 .left) (c .if2 .taken)
@@ -105,8 +110,9 @@ check-head-spec =
     (tie.spec
     record-fault-requires
     cast-t9
-    returns
     cast-t10
+    returns
+    cast-t11
     returns-2
     encloses-requires
     enclosed-requires
