@@ -2,13 +2,13 @@
 -- Assumes nothing.
 use Prim.Native.Nat.{ℕ, _<_}
 use mathlib.Core.Path.{_≡_, refl, sym, ap, _∙_, subst, subst⁻¹}
-use mathlib.Core.Bool.{true, false, true≢false}
-use mathlib.Core.Option.{none, some}
+use mathlib.Core.Bool.{true, false}
+use mathlib.Core.Option.{none}
 use mathlib.Core.List.{List}
 use Rattle.rules.specs.Table.{fine, check, recipeOf}
 use Rattle.rules.specs.Places.{at, start}
 use Rattle.rules.specs.State as R
-use Rattle.rules.specs.Scheduler.{nextAct, next, Ending, finished, paused, stuck, logfull, limit, tasks, spent, run}
+use Rattle.rules.specs.Scheduler.{nextAct, next, run}
 use Rattle.rules.specs.Steps.{recipes}
 use Rattle.state.specs.declared.State.{State}
 use Rattle.state.specs.View.{taskOf, queueOf, view, Fine, takeUp, turn}
@@ -18,24 +18,13 @@ use Rattle.step.specs.Linked.{Linked}
 use Rattle.step.specs.Moves.{Moves}
 use Rattle.runner.specs.declared.count.Count.{Count}
 use Rattle.runner.specs.declared.count.Stop.{Stop}
-use Rattle.runner.specs.declared.count.Stop.the-variants.{More, Finished, Paused, Stuck, Tasks, Spent, Logfull}
 use Rattle.runner.specs.Along.{endingOf, isMore, Along, Ended, Told}
 use Rattle.runner.specs.Active.{leaves, busy, Active, stepOf, Leaving, Made}
 use Rattle.runner.specs.Idle.{Idling, Tries}
 use Rattle.runner.specs.Drive.{Driving, call, Drives}
 use Rattle.runner.proofs.Along.{along-start}
 use Rattle.runner.proofs.Acting.{queue-length}
-use Rattle.runner.proofs.Proceeding.{more}
-
--- a stop that is one has its ending
-ends-of : (s : Stop) → isMore s ≡ false → (e : Ending) × (endingOf s ≡ some e)
-ends-of More h = absurd (true≢false h)
-ends-of Finished h = (finished, refl)
-ends-of Paused h = (paused, refl)
-ends-of Stuck h = (stuck, refl)
-ends-of Tasks h = (limit tasks, refl)
-ends-of Spent h = (limit spent, refl)
-ends-of Logfull h = (logfull, refl)
+use Rattle.runner.proofs.Stops.{more-none, ends-of}
 
 -- the state as the code holds it, by whether a task is active
 abbrev pub busyOf : State → R.State
@@ -71,9 +60,6 @@ pub record Tried (table : List ℕ) (s₀ : State) (budget : ℕ) (log₀ : List
       (turn turns (idleOf s)) place (endingOf stop)
   pub further : endingOf stop ≡ none → n .steps < n′ .steps
   pub off : s .active ≡ false
-
-pub more-none : (stop : Stop) → isMore stop ≡ true → endingOf stop ≡ none
-more-none stop h = ap endingOf (more stop h)
 
 module _ {table : List ℕ} {s₀ : State} {budget : ℕ} {log₀ : List ℕ} where
   pub driven-start : (next starts : List ℕ) (n : Count) → n .steps ≡ 0 → n .written ≡ 0 → Driving table next starts s₀ → Driven table s₀ budget log₀ s₀ n log₀

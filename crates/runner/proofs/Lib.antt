@@ -1,3 +1,4 @@
+pub mod Stops
 pub mod Along
 pub mod Deciding
 pub mod Acting

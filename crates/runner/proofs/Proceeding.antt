@@ -2,53 +2,24 @@
 -- Assumes nothing.
 use Prim.Native.Nat.{ℕ, _+_, _-_, _/_, _≤_, _<_}
 use mathlib.Core.Path.{_≡_, refl, sym, ap, _∙_, subst}
-use mathlib.Core.Bool.{true, false, true≢false, false≢true}
-use mathlib.Core.Option.{none}
+use mathlib.Core.Bool.{true, false, false≢true}
 use mathlib.Core.List.{List}
 use native.Mathlib.Omega.{arith}
 use lib.IntN.{ℤ}
 use lib.ListN.{length}
 use Rattle.rules.specs.Recipe.{Recipe, Within}
 use Rattle.rules.specs.State.{Task}
-use Rattle.rules.specs.Scheduler.{Limit, nextAct, next, Ending, What, stops, makes, test, Run}
+use Rattle.rules.specs.Scheduler.{nextAct, next, What, stops, makes, test, Run}
 use Rattle.rules.specs.Steps.{recipes}
 use Rattle.step.specs.declared.moves.Move.{Move}
 use Rattle.step.specs.Ready.{Placed}
 use Rattle.step.specs.Moves.{actOf, storeWith, MovesIn}
 use Rattle.runner.specs.declared.count.Count.{Count}
 use Rattle.runner.specs.declared.count.Stop.{Stop}
-use Rattle.runner.specs.declared.count.Stop.the-variants.{More, Finished, Paused, Stuck, Tasks, Spent, Logfull}
-use Rattle.runner.specs.Along.{stopOf, endingOf, isMore, Along, Decides, Told, Reached}
+use Rattle.runner.specs.Along.{endingOf, isMore, Along, Decides, Told, Reached}
 use Rattle.runner.specs.Active.{leaves, busy, Local}
+use Rattle.runner.proofs.Stops.{more-none, stop-not-more}
 use Rattle.runner.proofs.Along.{log-keeps, told}
-
--- ---- stops
-
-pub more : (s : Stop) → isMore s ≡ true → s ≡ More
-more More h = refl
-more Finished h = absurd (false≢true h)
-more Paused h = absurd (false≢true h)
-more Stuck h = absurd (false≢true h)
-more Tasks h = absurd (false≢true h)
-more Spent h = absurd (false≢true h)
-more Logfull h = absurd (false≢true h)
-
-pub not-more : (s : Stop) → isMore s ≡ false → endingOf s ≡ none → ⊥
-not-more More h e = true≢false h
-not-more Finished h e = let z : _≡_ {A = ℕ} 0 1 = cc in omega arith
-not-more Paused h e = let z : _≡_ {A = ℕ} 0 1 = cc in omega arith
-not-more Stuck h e = let z : _≡_ {A = ℕ} 0 1 = cc in omega arith
-not-more Tasks h e = let z : _≡_ {A = ℕ} 0 1 = cc in omega arith
-not-more Spent h e = let z : _≡_ {A = ℕ} 0 1 = cc in omega arith
-not-more Logfull h e = let z : _≡_ {A = ℕ} 0 1 = cc in omega arith
-
-stop-not-more : (e : Ending) → isMore (stopOf e) ≡ false
-stop-not-more Ending.finished = refl
-stop-not-more Ending.paused = refl
-stop-not-more Ending.stuck = refl
-stop-not-more Ending.logfull = refl
-stop-not-more (Ending.limit Limit.tasks) = refl
-stop-not-more (Ending.limit Limit.spent) = refl
 
 -- where the run goes on, one step is counted
 pub one-more : (r : Recipe) (y : What (recipes r)) (stop : Stop) (n n′ : Count) (log log′ : List ℕ) → Decides r y stop n n′ log log′ → isMore stop ≡ true
@@ -116,7 +87,7 @@ module _ {r : Recipe} {budget queued issued : ℕ} {t₀ t : Task ℕ} {v₀ v :
     again w q₀ l₀ t′ v′ h away f e =
         record {
           along = λ u given q l a.
-              let (x, c, g, a′) = subst (λ (s : Stop). Told r u budget given n′ log′ (busy issued v t q) (endingOf s)) (more stop h) (told-all w u given q l a) in
+              let (x, c, g, a′) = subst (Told r u budget given n′ log′ (busy issued v t q)) (more-none stop h) (told-all w u given q l a) in
               subst (Along r u budget given n′ log′) (f away r issued q x c (sym (acts q) ∙ g)) a′;
           same-length = e ∙ i .same-length;
           grows = let g = i .grows in omega (arith, counted q₀ l₀ h);

@@ -14,12 +14,12 @@ use lib.ListN.{length, getD}
 use lib.Seq.{sets}
 use borrow.Author.Tests.{le-leb, lt-leb}
 use Rattle.rules.specs.Recipe.{Recipe, Within}
-use Rattle.rules.specs.Table.{fine, check, recipeOf}
+use Rattle.rules.specs.Table.{recipeOf}
 use Rattle.rules.specs.Places.{at}
 use Rattle.rules.specs.State as R
 use Rattle.rules.specs.Log as L
 use Rattle.rules.specs.Log.{eventRow}
-use Rattle.rules.specs.Scheduler.{Readiness, ready, waits-for, isReady, canGo, Limit, goes, next, Ending, finished, paused, stuck, logfull, stops, test, Run}
+use Rattle.rules.specs.Scheduler.{Readiness, ready, waits-for, isReady, canGo, goes, next, Ending, finished, paused, stuck, logfull, stops, test, Run}
 use Rattle.rules.specs.Steps.{recipes, goTo, pastAt}
 use Rattle.rules.proofs.Lists.{every-map, getD-tab}
 use Rattle.rules.proofs.Fit.{TaskFit}
@@ -30,9 +30,11 @@ use Rattle.step.specs.Ready.{readinessOf, idle, readyIn, aheadIn, Placed, Waiti
 use Rattle.step.proofs.Queue.{every-at}
 use Rattle.runner.specs.declared.count.Count.{Count}
 use Rattle.runner.specs.declared.count.Stop.{Stop}
-use Rattle.runner.specs.declared.count.Stop.the-variants.{More, Finished, Paused, Stuck, Tasks, Spent, Logfull}
-use Rattle.runner.specs.Along.{stopOf, endingOf, isMore, Along, Decides, Told, Reached}
-use Rattle.runner.specs.Idle.{awaitedOf, Tries}
+use Rattle.runner.specs.declared.count.Stop.the-variants.{Finished, Stuck}
+use Rattle.runner.specs.Along.{stopOf, endingOf, Along, Decides, Told}
+use Rattle.step.specs.Moves.{storeWith}
+use Rattle.runner.specs.Idle.{awaitedOf, Idling, Tries}
+use Rattle.runner.proofs.Stops.{none-more, not-more, stop-not-more}
 use Rattle.runner.proofs.Along.{room-left, made, told}
 use Rattle.runner.proofs.Acting.{queue-length}
 use Rattle.runner.proofs.Turning.{Front, front, ahead-waits, next-none, next-stuck, next-turned, next-taken, next-tried}
@@ -77,15 +79,6 @@ queue-at q f n i d h = getD-tab (entry q f) n i d h
 count-is : (n m : Count) → n .steps ≡ m .steps → n .written ≡ m .written → n ≡ m
 count-is n m e g = ap₂ (λ (a b : ℕ). record { steps = a; written = b }) e g
 
-pub none-more : (s : Stop) → endingOf s ≡ none → isMore s ≡ true
-none-more More h = refl
-none-more Finished h = absurd (let z : _≡_ {A = ℕ} 0 1 = cc in omega arith)
-none-more Paused h = absurd (let z : _≡_ {A = ℕ} 0 1 = cc in omega arith)
-none-more Stuck h = absurd (let z : _≡_ {A = ℕ} 0 1 = cc in omega arith)
-none-more Tasks h = absurd (let z : _≡_ {A = ℕ} 0 1 = cc in omega arith)
-none-more Spent h = absurd (let z : _≡_ {A = ℕ} 0 1 = cc in omega arith)
-none-more Logfull h = absurd (let z : _≡_ {A = ℕ} 0 1 = cc in omega arith)
-
 -- what the tests before a take-up said, whatever it leads to
 pub record Takes (budget : ℕ) (e : L.Event) (stop : Stop) (n n′ : Count) (log log′ : List ℕ) : Type 0 where
   pub all : (x : Recipe) (c : R.State) → Decides x (test (recipes x) (budget - n .steps) ((length log - n .written) / 8) (goes (some e) c)) stop n n′ log log′
@@ -104,20 +97,38 @@ module _ (r : Recipe) where
   blocked (suc b) room h e e′ c c′ =
       ⊎-elim (λ g. absurd (omega arith)) (λ g. let z : room ≡ 0 = g in rw z (logfull, refl, refl)) h
 
-  stop-not-none : (e : Ending) → endingOf (stopOf e) ≡ none → ⊥
-  stop-not-none Ending.finished h = let z : _≡_ {A = ℕ} 0 1 = cc in omega arith
-  stop-not-none Ending.paused h = let z : _≡_ {A = ℕ} 0 1 = cc in omega arith
-  stop-not-none Ending.stuck h = let z : _≡_ {A = ℕ} 0 1 = cc in omega arith
-  stop-not-none Ending.logfull h = let z : _≡_ {A = ℕ} 0 1 = cc in omega arith
-  stop-not-none (Ending.limit Limit.tasks) h = let z : _≡_ {A = ℕ} 0 1 = cc in omega arith
-  stop-not-none (Ending.limit Limit.spent) h = let z : _≡_ {A = ℕ} 0 1 = cc in omega arith
-
   tries-of : (u : Run (recipes r)) (budget : ℕ) (given : List ℕ) (n : Count) (log : List ℕ) (c : R.State) (place : ℕ) (o : Option Ending)
       → Told r u budget given n log c o
       → ((x : Option L.Event) (c′ : R.State) → o ≡ none → next (recipes r) c ≡ goes x c′ → c′ ≡ takeUp (c .queue) place c)
       → Tries r u budget given n log c place o
   tries-of u budget given n log c place (some e) t f = t
   tries-of u budget given n log c place none (x, c′, g, a) f = subst (Along r u budget given n log) (f x c′ refl g) a
+
+-- ---- what holds where some call has come to a state with no task active
+
+module _ {table next queue : List ℕ} {variables : List ℤ} {front₀ queued issued budget : ℕ} {log : List ℕ} {n : Count}
+    (i : Idling table next queue variables front₀ queued issued budget log n) where
+  came : Along (recipeOf table) (i .reached .call) budget (i .reached .given) n log (idle issued variables queue front₀ queued)
+  came = i .reached .along
+
+  pub waiting : Waiting table queue front₀ queued
+  waiting =
+      record {
+        accepted = i .accepted;
+        front-fits = i .front-fits;
+        few = rw (queue-length queue front₀ queued) at (came .fits .few);
+        placed = every-map (TaskFit (recipeOf table) (storeWith issued variables)) (Placed (recipeOf table)) (λ t k. k .placed) (queueOf queue front₀ queued) (came .fits .tasks-fit);
+      }
+
+  pub placed-at : (k : ℕ) → k < queued → Placed (recipeOf table) (entry queue front₀ k)
+  unfolding queueOf
+  placed-at k l = every-at (TaskFit (recipeOf table) (storeWith issued variables)) (entry queue front₀) queued (came .fits .tasks-fit) k l .placed
+
+  pub in-budget : n .steps ≤ budget
+  in-budget = came .in-budget
+
+  pub in-log : n .written ≤ length log
+  in-log = written-fits came
 
 -- ---- the tries of one idle stretch
 
@@ -188,29 +199,6 @@ module _ (table : List ℕ) (w : Within (recipeOf table)) (issued : ℕ) (variab
         same-length = keeps ∙ s .same-length;
       }
 
-  -- ---- what holds where some call has come here
-
-  module _ {budget : ℕ} {n : Count} {log : List ℕ} (h : Reached (recipeOf table) budget n log (idle issued variables queue front₀ queued)) where
-    pub waiting : check table ≡ fine → front₀ < 32 → Waiting table queue front₀ queued
-    waiting e g =
-        let f = h .along .fits in
-        record {
-          accepted = e;
-          front-fits = g;
-          few = rw many at (f .few);
-          placed = every-map (TaskFit r (c .store)) (Placed r) (λ t k. k .placed) q (f .tasks-fit);
-        }
-
-    pub placed-at : (i : ℕ) → i < queued → Placed (recipeOf table) (entry queue front₀ i)
-    unfolding queueOf
-    placed-at i l = every-at (TaskFit r (c .store)) (entry queue front₀) queued (h .along .fits .tasks-fit) i l .placed
-
-    pub in-budget : n .steps ≤ budget
-    in-budget = h .along .in-budget
-
-    pub in-log : n .written ≤ length log
-    in-log = written-fits (h .along)
-
   -- ---- the stops
 
   module _ (u : Run (recipes (recipeOf table))) (budget : ℕ) (given : List ℕ) (n : Count) (log : List ℕ) where
@@ -259,7 +247,7 @@ module _ (table : List ℕ) (w : Within (recipeOf table)) (issued : ℕ) (variab
           let said = rw p′ at (d .all r c″) in
           tries-of r u budget given n′ log′ (turn k c) place (endingOf stop)
           (told w a stop n′ log′ (rw (x, p) said))
-          (λ y c′ o g. absurd (stop-not-none r end (sym (ap endingOf (said .0)) ∙ o)))
+          (λ y c′ o g. absurd (not-more (stopOf end) (stop-not-more end) (sym (ap endingOf (said .0)) ∙ o)))
 
       pub tries : (k ≡ aheadIn table (idle issued variables queue front₀ queued)) ⊎ ((budget - n .steps ≡ 0) ⊎ ((length log - n .written) / 8 ≡ 0))
           → Tries (recipeOf table) u budget given n′ log′ (turn k (idle issued variables queue front₀ queued)) place (endingOf stop)

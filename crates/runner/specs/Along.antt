@@ -36,14 +36,13 @@ endingOf Tasks = some (limit tasks)
 endingOf Spent = some (limit spent)
 endingOf Logfull = some logfull
 
+-- a call goes on where it has no ending
+abbrev pub goesOn : Option Ending → Bool
+goesOn none = true
+goesOn (some e) = false
+
 abbrev pub isMore : Stop → Bool
-isMore More = true
-isMore Finished = false
-isMore Paused = false
-isMore Stuck = false
-isMore Tasks = false
-isMore Spent = false
-isMore Logfull = false
+isMore s = goesOn (endingOf s)
 
 -- Of the call u, which was given this log buffer, the steps counted are made, their records stand in the log, and c is the state now.
 pub record Along (r : Recipe) (u : Run (recipes r)) (budget : ℕ) (given : List ℕ) (n : Count) (log : List ℕ) (c : State) : Type 0 where

@@ -26,7 +26,7 @@ pub record Driving (table next starts : List ℕ) (s : State) : Type 0 where
 abbrev pub call : (table : List ℕ) → State → (budget : ℕ) → (log : List ℕ) → Run (recipes (recipeOf table))
 call table s budget log = run (recipes (recipeOf table)) budget (roomOf log) (view s)
 
--- the call ends as it does
+-- the code's call ends as the definition's does, with its step count, its log and its last state
 pub record Drives (table : List ℕ) (s : State) (budget : ℕ) (log log′ : List ℕ) (x : Ran) : Type 0 where
   pub ending : Ending
   pub stop-is : endingOf (x .stop) ≡ some ending

@@ -24,8 +24,8 @@ ghost use Rattle.step.specs.Moves.{Named, Moves};
 ghost use Rattle.runner.specs.Along.{endingOf, Along, Told};
 ghost use Rattle.runner.specs.Active.{env, leaves, busy, Local, Active, named, Leaving, Made};
 
-// Why the active task no longer goes on, the task as it is then, the count, and its last move: made in a whole step, save
-// for what `made` does with the state.
+// Why the active task no longer goes on, the task and the count then, and its last move: where the call goes on, the step is counted and
+// logged, and `made` carries it out on the state; where the call stops, the move is not made.
 pub struct Proceeded {
     pub stop: Stop,
     pub task: Task,

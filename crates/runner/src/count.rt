@@ -34,6 +34,7 @@ pub enum Stop {
     Logfull,
 }
 
+// What the tests before a step decide, and the count after it.
 pub struct Decided {
     pub stop: Stop,
     pub count: Count,

@@ -16,7 +16,8 @@ use Rattle.rules.specs.Demand.{Bytes}
 use Rattle.rules.proofs.Lists.{tab-same, tab-first, getD-tab}
 use Rattle.rules.proofs.Blocks.Accepted.{HeadFit}
 use Rattle.state.specs.declared.Task.{Task}
-use Rattle.state.specs.View.{taskOf, unpacked, ring, entry, queueOf, activeOf, count}
+use Rattle.state.specs.View.{taskOf, unpacked, ring, entry, queueOf, activeOf}
+use Rattle.rules.specs.Scheduler.{is}
 use Rattle.state.specs.Block.{long, recordIn}
 
 pub record-task : (b : List ℕ) → Bytes b → (i : ℕ) → unpacked (recordIn b i) ≡ taskIn b i
@@ -40,7 +41,7 @@ pub active-below : (live active : ℕ) → active ≤ cond (eqb live 0) 0 1 → 
 active-below zero active h = (omega arith, omega arith)
 active-below (suc live) active h = let g : active ≤ 1 = rw (eqb·suc-zero live) at h in (g, omega arith)
 
-pub count-active : (active : ℕ) → active ≤ 1 → count (eqb active 1) ≡ active
+pub count-active : (active : ℕ) → active ≤ 1 → is (eqb active 1) ≡ active
 count-active zero h = refl
 count-active (suc zero) h = refl
 count-active (suc (suc active)) h = absurd (omega arith)

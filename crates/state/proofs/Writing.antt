@@ -17,7 +17,8 @@ use Rattle.rules.proofs.Numbers.{bits-below}
 use Rattle.rules.proofs.Blocks.Write.{Held}
 use Rattle.state.specs.declared.Task.{Task}
 use Rattle.state.specs.declared.State.{State}
-use Rattle.state.specs.View.{taskOf, packed, unpacked, ring, entry, queueOf, activeOf, view, count, Fine}
+use Rattle.state.specs.View.{taskOf, packed, unpacked, ring, entry, queueOf, activeOf, view, Fine}
+use Rattle.rules.specs.Scheduler.{is}
 use Rattle.state.specs.Block.{bytes8, headOf, ringRows, valueRows}
 use Rattle.state.proofs.Packed.{packed-unpacked, unpacked-held}
 
@@ -53,28 +54,28 @@ module _ (on : Bool) (t : Task) (q : List (R.Task ℕ)) where
   abbrev live : List (R.Task ℕ)
   live = liveTasks (activeOf on t) q
 
-live-length : (on : Bool) (t : Task) (q : List (R.Task ℕ)) → length (live on t q) ≡ count on + length q
+live-length : (on : Bool) (t : Task) (q : List (R.Task ℕ)) → length (live on t q) ≡ is on + length q
 live-length true t q = sym (one-add (length q))
 live-length false t q = sym (zero-add (length q))
 
 live-queued : (on : Bool) (t : Task) (q : List (R.Task ℕ)) (i : ℕ)
-    → getD (live on t q) (count on + i) noTask ≡ getD q i noTask
+    → getD (live on t q) (is on + i) noTask ≡ getD q i noTask
 live-queued true t q i = rw (one-add i)
 live-queued false t q i = rw (zero-add i)
 
 live-active : (on : Bool) (t : Task) (q : List (R.Task ℕ)) → Held (taskOf t)
-    → joined (count on) (λ i. taskRow (getD (live on t q) i noTask)) ≡ joined (count on) (λ i. bytes8 (packed (taskOf t)))
+    → joined (is on) (λ i. taskRow (getD (live on t q) i noTask)) ≡ joined (is on) (λ i. bytes8 (packed (taskOf t)))
 unfolding joined
 live-active true t q h = row-packed (taskOf t) h
 live-active false t q h = refl
 
-active-count : (on : Bool) (t : Task) → isActive (activeOf on t) ≡ count on
+active-count : (on : Bool) (t : Task) → isActive (activeOf on t) ≡ is on
 active-count true t = refl
 active-count false t = refl
 
 -- what stands in front of the queue, if x is stored at record 1
 front-rows : (on : Bool) (h x : List ℕ) → length h ≡ 520 → length x ≡ 8
-    → take (8 * (1 + count on)) (sets h 8 x) ≡ take 8 h ++ joined (count on) (λ i. x)
+    → take (8 * (1 + is on)) (sets h 8 x) ≡ take 8 h ++ joined (is on) (λ i. x)
 unfolding joined
 front-rows true h x l n = let e : 16 ≡ 8 + length x = omega arith in rw e (take-sets x h 8 (omega arith))
 front-rows false h x l n =
@@ -89,7 +90,7 @@ Fit q = (i : ℕ) → getD q i 0 < 18446744073709551616
 module _ (s : State) (fine : Fine s) (held : Held (taskOf (s .current))) (fits : Fit (s .queue)) where
   -- the number of active tasks, and of queued ones
   abbrev k : ℕ
-  k = count (s .active)
+  k = is (s .active)
 
   abbrev n : ℕ
   n = s .queued

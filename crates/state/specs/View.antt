@@ -9,6 +9,8 @@ use lib.ListN.{getD}
 use Rattle.rules.specs.Fields.{signed, bits}
 use Rattle.rules.specs.State as R
 use Rattle.rules.specs.State.{Store, tab}
+use Rattle.rules.specs.Scheduler.{is}
+use Rattle.rules.specs.Steps.{goTo}
 use Rattle.state.specs.declared.Task.{Task}
 use Rattle.state.specs.declared.State.{State}
 
@@ -42,19 +44,12 @@ activeOf on t = cond on (some (taskOf t)) none
 abbrev pub view : State → R.State
 view s = record { store = storeOf s; active = activeOf (s .active) (s .current); queue = queueOf (s .queue) (s .front) (s .queued) }
 
-abbrev pub count : Bool → ℕ
-count true = 1
-count false = 0
-
 -- what the methods keep
 pub record Fine (s : State) : Type 0 where
   pub front-fits : s .front < 32
-  pub few : s .queued + count (s .active) ≤ 32
+  pub few : s .queued + is (s .active) ≤ 32
 
 -- ---- what the methods do
-
-abbrev pub goTo : R.Task ℕ → ℕ → R.Task ℕ
-goTo t k = record { number = t .number; place = k; parameter = t .parameter }
 
 -- "joins the back": the active task, at the place k
 abbrev pub putBack : Option (R.Task ℕ) → ℕ → R.State → R.State

@@ -21,7 +21,8 @@ ghost use Rattle.rules.specs.Table.{fine, fault, check, recipeOf};
 ghost use Rattle.rules.specs.Places.{isPlace};
 ghost use Rattle.rules.specs.State.{issuedIn, liveIn, numberIn, unlike, headFits, taskFits, unusedFits, recordFits, checkRecords, checkBlock, variablesIn, readBlock, writeBlock, tab};
 ghost use Rattle.table.specs.Check.{verdictOf};
-ghost use Rattle.state.specs.View.{count, view, Fine};
+ghost use Rattle.rules.specs.Scheduler.{is};
+ghost use Rattle.state.specs.View.{view, Fine};
 ghost use Rattle.state.specs.Block.{long, recordIn, bytes8, headOf, ringRows, valueRows};
 
 // ---- the check
@@ -295,7 +296,7 @@ fn put_variables(b: &mut [u8], variables: [i32; 64])
 
 // The active tasks.
 fn how_many(on: bool) -> u8
-    ensures { λ r. ⌜ r ≡ count on ⌝ }
+    ensures { λ r. ⌜ r ≡ is on ⌝ }
 {
     if on { 1 } else { 0 }
 }

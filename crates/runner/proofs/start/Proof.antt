@@ -1,5 +1,4 @@
 use mathlib.Core.Path.{_≡_, sym, ap, _∙_, subst⁻¹}
-use mathlib.Core.List.{List}
 use Rattle.rules.specs.Table.{fine, check}
 use Rattle.rules.specs.State.{writeBlock}
 use Rattle.rules.specs.Answers.{StartAnswers}

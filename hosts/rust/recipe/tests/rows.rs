@@ -2,7 +2,7 @@
 
 mod common;
 
-use common::table;
+use common::{table, ROW_A};
 use recipe::asm::assemble;
 use recipe_runner::{records, Ending, State};
 
@@ -18,17 +18,7 @@ const ROWS: [Row; 7] = [
 procedure press p
     set valve1 p
 ",
-        &[
-            (1, 0, 5, 0),
-            (6, 8, 1, 1),
-            (9, 0, 0, 5),
-            (8, 8, 0, 0),
-            (3, 0, 1, 0),
-            (9, 0, 0, 1),
-            (1, 0, 2, 0),
-            (3, 1, 1, 0),
-            (10, 64, 0, 0),
-        ],
+        &ROW_A,
         Ending::Finished,
         8,
     ),

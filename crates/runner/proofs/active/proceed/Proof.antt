@@ -7,7 +7,8 @@ use Rattle.rules.specs.Table.{recipeOf}
 use Rattle.rules.proofs.Standing.{spells}
 use Rattle.state.specs.View.{taskOf}
 use Rattle.step.specs.Moves.{storeWith}
-use Rattle.runner.proofs.Proceeding.{not-more, Running, running-start, DecidesAll, in-budget, in-log, placed, told-all, further, counted, again}
+use Rattle.runner.proofs.Stops.{not-more}
+use Rattle.runner.proofs.Proceeding.{Running, running-start, DecidesAll, in-budget, in-log, placed, told-all, further, counted, again}
 use Rattle.runner.proofs.active.proceed.Statement.{statement}
 use Rattle.runner.proofs.active.proceed.Tie as tie
 

@@ -9,7 +9,8 @@ use lib.IntN.{ℤ}
 use Rattle.state.specs.declared.Task.{Task}
 use Rattle.state.specs.declared.State.{State}
 use Rattle.state.specs.View.{queueOf}
-use Rattle.runner.proofs.Driving.{more-none, Driven, Came, Tried, driven-start, along-busy, along-idle, to-proceed, to-try, came-ends, came-leaves, came-on, came-further, tried-ends, tried-on, tried-further}
+use Rattle.runner.proofs.Stops.{more-none}
+use Rattle.runner.proofs.Driving.{Driven, Came, Tried, driven-start, along-busy, along-idle, to-proceed, to-try, came-ends, came-leaves, came-on, came-further, tried-ends, tried-on, tried-further}
 use Rattle.runner.proofs.drive.drive.Statement.{statement}
 use Rattle.runner.proofs.drive.drive.Tie as tie
 

@@ -14,7 +14,7 @@ use Rattle.runner.proofs.Turning.{ahead-length}
 use Rattle.rules.proofs.Standing.{spells}
 use Rattle.step.specs.Ready.{idle, aheadIn}
 use Rattle.runner.specs.declared.count.Stop.the-variants.{Finished, Stuck}
-use Rattle.runner.proofs.Proceeding.{not-more}
+use Rattle.runner.proofs.Stops.{not-more}
 use Rattle.runner.proofs.Trying.{Chosen, chosen, Takes, takes-one, waiting, placed-at, in-budget, in-log, finishes, jams, tries}
 use borrow.Author.Needs.{needs}
 use Rattle.runner.proofs.idle.try_all.Statement.{statement}
@@ -54,9 +54,7 @@ returns c =
 
 first-ready-requires : tie.Need-first-ready-requires
 first-ready-requires c κs =
-    let o = c .before .before .before in
-    let a = o .args in
-    waiting (a .table .now) (within (c .before)) (a .issued) (a .variables .now) (a .queue .now) (a .front) (a .queued) (o .pre .reached) (o .pre .accepted) (o .pre .front-fits)
+    waiting (c .before .before .before .pre)
 
 returns-2 : tie.Need-returns-2
 returns-2 c =
@@ -75,9 +73,7 @@ cast-left c = search needs
 
 sub-room : tie.Need-sub-room
 sub-room c =
-    let o = c .before .before .before .before .before .before .before in
-    let a = o .args in
-    in-log (a .table .now) (within (c .before .before .before .before .before)) (a .issued) (a .variables .now) (a .queue .now) (a .front) (a .queued) (o .pre .reached)
+    in-log (c .before .before .before .before .before .before .before .pre)
 
 least-requires : tie.Need-least-requires
 least-requires c κs = search needs
@@ -88,14 +84,11 @@ least-requires-2 c κs = search needs
 turn-first-requires : tie.Need-turn-first-requires
 turn-first-requires c κs =
     let o = c .before .before .before .before .before .before .before .before .before .before in
-    let a = o .args in
-    let w = within (c .before .before .before .before .before .before .before .before) in
     let k = turns (c .before) in
-    let b = in-budget (a .table .now) w (a .issued) (a .variables .now) (a .queue .now) (a .front) (a .queued) (o .pre .reached) in
-    let l = in-log (a .table .now) w (a .issued) (a .variables .now) (a .queue .now) (a .front) (a .queued) (o .pre .reached) in
-    let r = waiting (a .table .now) w (a .issued) (a .variables .now) (a .queue .now) (a .front) (a .queued) (o .pre .reached) (o .pre .accepted) (o .pre .front-fits) in
+    let b = in-budget (o .pre) in
+    let l = in-log (o .pre) in
     record {
-      waiting = r;
+      waiting = waiting (o .pre);
       some-go = some-goes (c .before .before .before .before .before);
       waits = k .in-ahead;
       in-budget = omega (arith, k .in-left);
@@ -105,14 +98,12 @@ turn-first-requires c κs =
 take-requires : tie.Need-take-requires
 take-requires c κs =
     let o = c .before .before .before .before .before .before .before .before .before .before .before .before .before .before in
-    let a = o .args in
-    let w = within (c .before .before .before .before .before .before .before .before .before .before .before .before) in
     let k = turns (c .before .before .before .before .before) in
     let s = some-goes (c .before .before .before .before .before .before .before .before .before) in
     let n = c .before .before .before .turn-first .ensures .1 in
-    let b = in-budget (a .table .now) w (a .issued) (a .variables .now) (a .queue .now) (a .front) (a .queued) (o .pre .reached) in
-    let l = in-log (a .table .now) w (a .issued) (a .variables .now) (a .queue .now) (a .front) (a .queued) (o .pre .reached) in
-    let f = waiting (a .table .now) w (a .issued) (a .variables .now) (a .queue .now) (a .front) (a .queued) (o .pre .reached) (o .pre .accepted) (o .pre .front-fits) .few in
+    let b = in-budget (o .pre) in
+    let l = in-log (o .pre) in
+    let f = waiting (o .pre) .few in
     let h = k .in-ahead in
     let same = c .before .before .log .given in
     record {
@@ -120,7 +111,7 @@ take-requires c κs =
       leads = o .pre .leads;
       front-fits = o .pre .front-fits;
       few = omega arith;
-      placed = placed-at (a .table .now) w (a .issued) (a .variables .now) (a .queue .now) (a .front) (a .queued) (o .pre .reached) _ (omega arith);
+      placed = placed-at (o .pre) _ (omega arith);
       in-budget = omega (arith, k .in-left, n .0);
       in-log = omega (arith, k .in-room, n .1);
     }

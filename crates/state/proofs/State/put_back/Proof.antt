@@ -1,7 +1,8 @@
 use Rattle.rules.proofs.Blocks.Write.{Held}
 use Prim.Native.Nat.{_+_, _≤_}
 use native.Mathlib.Omega.{arith}
-use Rattle.state.specs.View.{goTo, taskOf}
+use Rattle.state.specs.View.{taskOf}
+use Rattle.rules.specs.Steps.{goTo}
 use Rattle.state.proofs.Told.{current-held, queue-length}
 use Rattle.state.proofs.Ring.{joins-task}
 use borrow.Author.Needs.{needs}

@@ -7,7 +7,8 @@ use mir.Facts.{toZ-ofZ}
 use lib.IntN.{ℤ}
 use Rattle.rules.specs.State as R
 use Rattle.rules.proofs.Numbers.{mag-range}
-use Rattle.state.specs.View.{count, packed}
+use Rattle.state.specs.View.{packed}
+use Rattle.rules.specs.Scheduler.{is}
 use Rattle.state.proofs.Told.{queue-length}
 use Rattle.state.proofs.Ring.{joins-task}
 use borrow.Author.Needs.{needs}
@@ -37,7 +38,7 @@ returns c =
     let o = c .before in
     let s = o .args .t1 in
     let z = o .args .argument in
-    let few : s .queued + 1 + count (s .active) ≤ 32 = rw (o .pre .1) (omega arith) in
+    let few : s .queued + 1 + is (s .active) ≤ 32 = rw (o .pre .1) (omega arith) in
     let t : ℤ → R.Task ℕ = λ v. record { number = s .issued + 1; place = o .args .place; parameter = v } in
     let p = o .fits .place .fits in
     let v = mag-range z (o .fits .argument .sfits) in
