@@ -8,9 +8,9 @@ use mathlib.Core.List.{List, [], _∷_, _++_}
 use Rattle.rules.specs.Recipe.{Stmt, skip, assign, if, while, spawn, suspend, await, Body, fin, _▸_, Recipe, Env}
 use Rattle.rules.specs.State.{Task}
 use Rattle.rules.specs.Log.{Event}
-use Rattle.rules.specs.Scheduler.{Rules, Config, Next, goes}
+use Rattle.rules.specs.Scheduler.{Rules, Config, Next, goes, logOf}
 use Rattle.rules.specs.Steps.{Limits}
-use Rattle.paper.specs.Paper.{Queue, task, PaperState, WhileStep, skip-step, assign-step, if-true, if-false, while-true, while-false, unlimited, Rule, local, spawn-start, return, yield-suspend, yield-await, schedule-simple, schedule-await, rotate, Derivation, empty, rule-then, logged, Name, Local, SpawnStart, Return, YieldSuspend, YieldAwait, ScheduleSimple, ScheduleAwait, Rotate, nameOf}
+use Rattle.paper.specs.Paper.{Queue, task, PaperState, WhileStep, skip-step, assign-step, if-true, if-false, while-true, while-false, unlimited, Rule, local, spawn-start, return, yield-suspend, yield-await, schedule-simple, schedule-await, rotate, Derivation, empty, rule-then, Name, Local, SpawnStart, Return, YieldSuspend, YieldAwait, ScheduleSimple, ScheduleAwait, Rotate, nameOf}
 use Rattle.paper.specs.Follows.{statements}
 use Rattle.paper.proofs.Exact.{awaitsB, kind, simple-awaits, rule-next}
 
@@ -57,7 +57,7 @@ module _ {full : Limits} {r : Recipe} where
   name-is : {c d : PaperState} {event : Option Event} (u : Rule full r c event d)
       → nameOf u ≡ nameBy (c .active) (c .queue) (d .active)
   name-is (local h) = while-name h
-  name-is (spawn-start h) = refl
+  name-is (spawn-start d h) = refl
   name-is return = refl
   name-is yield-suspend = refl
   name-is yield-await = refl
@@ -83,13 +83,13 @@ module _ {full : Limits} {r : Recipe} where
   one-derivation {d′ = d′} (rule-then {n = n} u p) (rule-then {log = log′} v q) =
       let (_, e, f) = one-rule u v in
       let (g, h) = one-derivation p (subst (λ (c : PaperState). Derivation full r c n log′ d′) (sym f) q) in
-      (ap₂ (λ (x : Option Event) (l : List Event). logged x ++ l) e g, h)
+      (ap₂ (λ (x : Option Event) (l : List Event). logOf x ++ l) e g, h)
 
   -- ---- the limits are a premise only
 
   free-rule : {c d : PaperState} {event : Option Event} → Rule full r c event d → Rule unlimited r c event d
   free-rule (local h) = local h
-  free-rule (spawn-start h) = spawn-start refl
+  free-rule (spawn-start d h) = spawn-start d refl
   free-rule return = return
   free-rule yield-suspend = yield-suspend
   free-rule yield-await = yield-await

@@ -2,7 +2,7 @@
 -- Assumes nothing.
 use Prim.Native.Nat.{ℕ, _+_, _<_}
 use mathlib.Core.Path.{_≡_, refl, sym, ap, ap₂, _∙_, subst}
-use mathlib.Core.Bool.{Bool, true, false, not, _||_, _&&_, cond, true≢false}
+use mathlib.Core.Bool.{Bool, true, false, not, _||_, _&&_, cond, true≢false, or-true}
 use mathlib.Core.Option.{Option, none, some}
 use mathlib.Core.List.{[], _∷_, append-nil}
 use native.Mathlib.Omega.{arith}
@@ -166,10 +166,6 @@ module _ (full : Limits) (r : Recipe) where
   any-goes : (w : Queue) (σ : Store) {q : Queue} → Any (Schedulable w σ) q → anyGo S (idle w σ) q ≡ true
   any-goes w σ (here h) = rw (reads-is (can-go h))
   any-goes w σ (there {t = t} h) = rw (any-goes w σ h) (or-true (canGo S (idle w σ) t))
-    where
-      or-true : (b : Bool) → (b || true) ≡ true
-      or-true true = refl
-      or-true false = refl
 
   goes-any : (w : Queue) (σ : Store) (q : Queue) → anyGo S (idle w σ) q ≡ true → Any (Schedulable w σ) q
   goes-any w σ [] h = absurd (true≢false (sym h))
@@ -213,7 +209,7 @@ module _ (full : Limits) (r : Recipe) where
   unfolding look
   rule-next (local {n = n} {σ′ = σ′} {event = event} {q = q} h) =
       ap (nextAct S q) (while-next n q h) ∙ quiet (memory n σ′) q (on _) event
-  rule-next (spawn-start h) = rw h
+  rule-next (spawn-start d h) = rw h
   rule-next (return {f} {z} {q} {σ}) = quiet σ q over (some (ended f))
   rule-next (yield-suspend {f} {s} {z} {q} {σ}) = quiet σ q (back (task f s z)) (some (gave f))
   rule-next (yield-await {f} {x} {s} {z} {q} {σ}) =
@@ -259,35 +255,41 @@ module _ (full : Limits) (r : Recipe) where
   says-test σ f s s′ z q false g h = says-quiet σ q (on (task f s′ z)) none (h refl)
 
   says-spawn : (σ : Store) (f x m : ℕ) (e : Expr) (s : Body) (z : ℤ) (q : Queue) (o : Option Limit)
+      → m < length r
       → full (length q) (σ .issued) ≡ o
       → Says
       (running (task f (spawn x m e ▸ s) z) q σ)
       (nextAct S q (spawnAt o σ (task f (spawn x m e ▸ s) z) x (getD r m fin) (value (env σ z) e) s))
-  says-spawn σ f x m e s z q (some l) h = barred h
-  says-spawn σ f x m e s z q none h = spawn-start h
+  says-spawn σ f x m e s z q (some l) d h = barred h
+  says-spawn σ f x m e s z q none d h = spawn-start d h
+
+  -- a spawn that comes first names a procedure of the recipe
+  abbrev pub Declared : Body → Type 0
+  Declared s = (x m : ℕ) (e : Expr) (s′ : Body) → s ≡ spawn x m e ▸ s′ → m < length r
 
   says-running : (σ : Store) (f : ℕ) (s : Body) (z : ℤ) (q : Queue)
+      → Declared s
       → Says (running (task f s z) q σ) (next S (running (task f s z) q σ))
   unfolding look
-  says-running σ f fin z q = says-quiet σ q over (some (ended f)) return
-  says-running σ f (skip ▸ s) z q =
+  says-running σ f fin z q d = says-quiet σ q over (some (ended f)) return
+  says-running σ f (skip ▸ s) z q d =
       says-quiet σ q (on (task f s z)) none (local {σ = env σ z} {σ′ = env σ z} skip-step)
-  says-running σ f (assign v e ▸ s) z q =
+  says-running σ f (assign v e ▸ s) z q d =
       let x = value (env σ z) e in
       let σ′ = write (env σ z) v x in
       says-quiet (memory (σ .issued) σ′) q (on (task f s (σ′ .parameter))) (valveOf f v x)
       (local {σ = env σ z} {σ′ = σ′} assign-step)
-  says-running σ f (if e b ▸ s) z q =
+  says-running σ f (if e b ▸ s) z q d =
       says-test σ f (b then s) s z q (truth (value (env σ z) e))
       (λ h. local {σ = env σ z} {σ′ = env σ z} (if-true h))
       (λ h. local {σ = env σ z} {σ′ = env σ z} (if-false h))
-  says-running σ f (while e b ▸ s) z q =
+  says-running σ f (while e b ▸ s) z q d =
       says-test σ f (b then (while e b ▸ s)) s z q (truth (value (env σ z) e))
       (λ h. local {σ = env σ z} {σ′ = env σ z} (while-true h))
       (λ h. local {σ = env σ z} {σ′ = env σ z} (while-false h))
-  says-running σ f (spawn x m e ▸ s) z q = says-spawn σ f x m e s z q (full (length q) (σ .issued)) refl
-  says-running σ f (suspend ▸ s) z q = says-quiet σ q (back (task f s z)) (some (gave f)) yield-suspend
-  says-running σ f (await x ▸ s) z q =
+  says-running σ f (spawn x m e ▸ s) z q d = says-spawn σ f x m e s z q (full (length q) (σ .issued)) (d x m e s refl) refl
+  says-running σ f (suspend ▸ s) z q d = says-quiet σ q (back (task f s z)) (some (gave f)) yield-suspend
+  says-running σ f (await x ▸ s) z q d =
       says-quiet σ q (back (task f (await x ▸ s) z)) (some (waits f (read (env σ z) x))) yield-await
 
   -- the front is taken up, or turned if another can go on
@@ -311,10 +313,15 @@ module _ (full : Limits) (r : Recipe) where
       go true e = says-try q (goes-any (t ∷ q) σ (t ∷ q) e) (reads (t ∷ q) σ t)
       go false e = stuck (λ g. true≢false (sym (any-goes (t ∷ q) σ g) ∙ e))
 
-  says-of : (σ : Store) (a : Option (Task Body)) (q : Queue)
-      → Says (record { store = σ; active = a; queue = q }) (next S (record { store = σ; active = a; queue = q }))
-  says-of σ none q = says-idle q σ
-  says-of σ (some t) q = says-running σ (t .number) (t .place) (t .parameter) q
+  abbrev pub DeclaredIn : Option (Task Body) → Type 0
+  DeclaredIn none = Unit {0}
+  DeclaredIn (some t) = Declared (t .place)
 
-  pub says : (c : PaperState) → Says c (next S c)
-  says c = says-of (c .store) (c .active) (c .queue)
+  says-of : (σ : Store) (a : Option (Task Body)) (q : Queue)
+      → DeclaredIn a
+      → Says (record { store = σ; active = a; queue = q }) (next S (record { store = σ; active = a; queue = q }))
+  says-of σ none q d = says-idle q σ
+  says-of σ (some t) q d = says-running σ (t .number) (t .place) (t .parameter) q d
+
+  pub says : (c : PaperState) → DeclaredIn (c .active) → Says c (next S c)
+  says c d = says-of (c .store) (c .active) (c .queue) d

@@ -3,17 +3,20 @@
 use Prim.Native.Nat.{ℕ}
 use mathlib.Core.Path.{_≡_, refl, sym, ap, _∙_, subst}
 use mathlib.Core.Logic.{_↔_, _⊎_, inl, inr}
-use mathlib.Core.Option.{Option}
+use mathlib.Core.Bool.{true}
+use mathlib.Core.Option.{Option, none, some, Option·map}
 use native.Mathlib.Omega.{arith}
 use Rattle.rules.specs.Recipe.{Recipe, Within}
-use Rattle.rules.specs.State.{State}
+use Rattle.rules.specs.Places.{isPlace}
+use Rattle.rules.specs.State.{Task, State, liveTasks}
+use Rattle.rules.specs.Fairness.{Every}
 use Rattle.rules.specs.Log.{Event}
 use Rattle.rules.specs.Scheduler.{Limit, Rules, Next, finish, jam, bar, goes, next}
 use Rattle.rules.specs.Steps.{Limits}
 use Rattle.paper.specs.Paper.{PaperState, unlimited, Rule, Applies, Barred, barred, Finished, Stuck}
-use Rattle.paper.specs.Follows.{places, statements, shown, shownNext, Placed, Ends, by-finish, by-jam, by-limit, Follows}
-use Rattle.paper.proofs.Shown.{same-next, PlacedNext, placed-next}
-use Rattle.paper.proofs.Exact.{Says, says, rule-next, finished-next, stuck-next, barred-next}
+use Rattle.paper.specs.Follows.{places, statements, shownTask, shown, shownNext, Placed, Ends, by-finish, by-jam, by-limit, Follows}
+use Rattle.paper.proofs.Shown.{spawn-declared, same-next, PlacedNext, placed-next}
+use Rattle.paper.proofs.Exact.{DeclaredIn, Says, says, rule-next, finished-next, stuck-next, barred-next}
 use Rattle.paper.proofs.Derivations.{one-rule}
 
 module _ (full : Limits) (r : Recipe) (w : Within r) (c : State) (p : Placed r c) where
@@ -26,9 +29,14 @@ module _ (full : Limits) (r : Recipe) (w : Within r) (c : State) (p : Placed r c
   same : next S (shown r c) ≡ shownNext full r (next R c)
   same = same-next full r w c p
 
+  -- the active task stands at a place, and a spawn there names a procedure
+  declared : (a : Option (Task ℕ)) → Every (λ t. isPlace r (t .place) ≡ true) (liveTasks a (c .queue)) → DeclaredIn full r (Option·map (shownTask r) a)
+  declared none h = tt
+  declared (some t) h = λ x m e s g. spawn-declared r w (t .place) (h .0) x m e s g
+
   -- what comes next over places, said by the rules
   said : (y : Next R) → next R c ≡ y → Says full r (shown r c) (shownNext full r y)
-  said y h = subst (Says full r (shown r c)) (same ∙ ap (shownNext full r) h) (says full r (shown r c))
+  said y h = subst (Says full r (shown r c)) (same ∙ ap (shownNext full r) h) (says full r (shown r c) (declared (c .active) p))
 
   -- and back: what comes next over statements is shown by what comes next over places
   abbrev Back : Next R → Next S → Type 0

@@ -1,7 +1,7 @@
 -- A run is a derivation of the paper, step for step, and no other.
 -- Assumes nothing.
-use Prim.Native.Nat.{ℕ, zero, suc}
-use mathlib.Core.Path.{_≡_, refl, sym, ap, _∙_, subst}
+use Prim.Native.Nat.{ℕ}
+use mathlib.Core.Path.{_≡_, refl, sym, ap, subst}
 use mathlib.Core.Logic.{_↔_, Iff·trans}
 use mathlib.Core.Bool.{true}
 use mathlib.Core.Option.{Option, none, some, Option·map}
@@ -13,13 +13,13 @@ use Rattle.rules.specs.Recipe.{Body, Recipe, sizeR, Within}
 use Rattle.rules.specs.Table.{check, fine, recipeOf}
 use Rattle.rules.specs.Places.{isPlace, startFrom, start}
 use Rattle.rules.specs.State.{Task, Store, State, liveTasks, live, fresh, checkBlock, readBlock, writeBlock}
-use Rattle.rules.specs.Scheduler.{Rules, Next, finish, jam, next, Ending, finished, paused, stuck, logfull, limit, tasks, spent, numberOf, stops, test, Run, end, run, ending, last, stepsOf, log}
+use Rattle.rules.specs.Scheduler.{Rules, finish, jam, next, finished, stuck, numberOf, Run, run, ending, last, stepsOf, log}
 use Rattle.rules.specs.Steps.{limits, recipes}
 use Rattle.rules.specs.Run.{outcome, roomOf, openOn, runOn}
 use Rattle.rules.specs.Demand.{Bytes}
 use Rattle.rules.proofs.Lists.{every-map}
 use Rattle.rules.proofs.Scheduling.Whole.{by-test}
-use Rattle.rules.proofs.Scheduling.Bound.{cause}
+use Rattle.rules.proofs.Scheduling.Endings.{by-number}
 use Rattle.rules.proofs.Fit.{TaskFit, Fit}
 use Rattle.rules.proofs.Steps.{run-fits}
 use Rattle.rules.proofs.Blocks.{fit-read, read-write}
@@ -40,69 +40,26 @@ at-start (b ∷ r) w =
     let σ : Store = record { issued = 1; variables = replicate 64 (pos 0) } in
     ap (λ (s : Body). running (task 1 s (pos 0)) [] σ) (sym (begins limits (b ∷ r) w 0 (omega arith)))
 
--- the ending that a number names
-endingOf : ℕ → Ending
-endingOf zero = finished
-endingOf (suc zero) = paused
-endingOf (suc (suc zero)) = stuck
-endingOf (suc (suc (suc zero))) = limit tasks
-endingOf (suc (suc (suc (suc zero)))) = limit spent
-endingOf (suc (suc (suc (suc (suc n))))) = logfull
-
-ending-is : (e : Ending) → endingOf (numberOf e) ≡ e
-unfolding endingOf numberOf
-ending-is finished = refl
-ending-is paused = refl
-ending-is stuck = refl
-ending-is logfull = refl
-ending-is (limit tasks) = refl
-ending-is (limit spent) = refl
-
 module _ (r : Recipe) (w : Within r) where
   abbrev R : Rules
   R = recipes r
 
-  -- ---- an ending that is said exactly when y₀ comes next
-
-  module _ (e₀ : Ending) (y₀ : Next R)
-      (always : (b k : ℕ) → test R b k y₀ ≡ stops e₀)
-      (never-else : (b k : ℕ) (y : Next R) → test R b k y ≡ stops e₀ → y ≡ y₀) where
-    AnswersP : ℕ → State → Run R → Type 0
-    AnswersP b c u = (numberOf (ending R u) ≡ numberOf e₀) ↔ (next R (last R u) ≡ y₀)
-
-    at-end : (b k : ℕ) (c : State) (e : Ending) → test R b k (next R c) ≡ stops e → AnswersP b c (end e c)
-    unfolding AnswersP
-    at-end b k c e h = (said, heard)
-      where
-        said : numberOf e ≡ numberOf e₀ → next R c ≡ y₀
-        said i = never-else b k (next R c) (h ∙ ap stops (sym (ending-is e) ∙ ap endingOf i ∙ ending-is e₀))
-
-        heard : next R c ≡ y₀ → numberOf e ≡ numberOf e₀
-        heard i =
-            let z : stops e₀ ≡ stops e = sym (always b k) ∙ ap (test R b k) (sym i) ∙ h in
-            let j : e₀ ≡ e = cc in
-            rw j
-
-    answers : (b k : ℕ) (c : State) → AnswersP b c (run R b k c)
-    unfolding AnswersP
-    answers = by-test R AnswersP at-end (λ b k c x d h l ih. ih)
-
   says-finished : (b k : ℕ) (c : State)
       → (numberOf (ending R (run R b k c)) ≡ 0) ↔ (next R (last R (run R b k c)) ≡ finish)
-  unfolding numberOf AnswersP
-  says-finished = answers finished finish (λ b k. refl) (λ b k y. cause R b k y finished)
+  unfolding numberOf
+  says-finished b k c = by-number R b k c finished
 
   says-stuck : (b k : ℕ) (c : State)
       → (numberOf (ending R (run R b k c)) ≡ 2) ↔ (next R (last R (run R b k c)) ≡ jam)
-  unfolding numberOf AnswersP
-  says-stuck = answers stuck jam (λ b k. refl) (λ b k y. cause R b k y stuck)
+  unfolding numberOf
+  says-stuck b k c = by-number R b k c stuck
 
   -- ---- the derivation
 
-  DerivesP : ℕ → State → Run R → Type 0
-  DerivesP b c u = Placed r c → Derivation limits r (shown r c) (stepsOf R u) (log R u) (shown r (last R u))
+  DerivesP : (b k : ℕ) → State → Run R → Type 0
+  DerivesP b k c u = Placed r c → Derivation limits r (shown r c) (stepsOf R u) (log R u) (shown r (last R u))
 
-  derivation : (b k : ℕ) (c : State) → DerivesP b c (run R b k c)
+  derivation : (b k : ℕ) (c : State) → DerivesP b k c (run R b k c)
   unfolding DerivesP
   derivation = by-test R DerivesP
       (λ b k c e h p. empty)

@@ -10,7 +10,7 @@ use lib.Dec.{eqb, ltb}
 use lib.IntN.{ℤ}
 use lib.ListN.{length, getD, length-map}
 use Rattle.rules.specs.Values.{truth}
-use Rattle.rules.specs.Recipe.{Body, fin, Recipe, Within, value}
+use Rattle.rules.specs.Recipe.{Expr, spawn, Body, fin, _▸_, Recipe, Within, value}
 use Rattle.rules.specs.Places.{Point, nowhere, stop, skips, assigns, tests, spawns, suspends, awaits, at, stands, isPlace, start}
 use Rattle.rules.specs.Rest.{rest, look}
 use Rattle.rules.specs.State.{Task, Store, State}
@@ -20,7 +20,7 @@ use Rattle.rules.specs.Steps.{Limits, envOf, waitAt, pastAt, spawnAt, actAt}
 use Rattle.rules.specs.Fairness.{Every}
 use Rattle.rules.proofs.Lists.{every-append}
 use Rattle.rules.proofs.Ranges.{either}
-use Rattle.rules.proofs.Places.{Fits, none-fits, stop-fits, skip-fits, assign-fits, if-fits, while-fits, spawn-fits, suspend-fits, await-fits, fits, starts, Leads, leads, start-place}
+use Rattle.rules.proofs.Places.{Fits, none-fits, stop-fits, skip-fits, assign-fits, if-fits, while-fits, spawn-fits, suspend-fits, await-fits, fits, starts, spawn-named, Leads, leads, start-place}
 use Rattle.paper.specs.Paper.{Queue}
 use Rattle.paper.specs.Follows.{places, statements, toDo, shownTask, shown, shownNext, Placed}
 
@@ -69,6 +69,14 @@ stands-some (await-fits c h) = (λ g. tt, λ g. refl)
 -- an index is a place exactly where the statements still to do are known
 pub place-rest : (r : Recipe) → Within r → (i : ℕ) → (isPlace r i ≡ true) ↔ IsSome (rest r i)
 place-rest r w i = stands-some (fits r w i)
+
+-- a spawn that comes next at a place names a procedure of the recipe
+pub spawn-declared : (r : Recipe) → Within r → (i : ℕ) → isPlace r i ≡ true → (x m : ℕ) (e : Expr) (s : Body) → toDo r i ≡ spawn x m e ▸ s → m < length r
+spawn-declared r w i h x m e s g = go (rest r i) refl (place-rest r w i .0 h) g
+  where
+    go : (o : Option Body) → rest r i ≡ o → IsSome o → Option·getD o fin ≡ spawn x m e ▸ s → m < length r
+    go none e′ h g = absurd h
+    go (some k) e′ h g = spawn-named r w i x m e s (e′ ∙ ap some g)
 
 module _ (r : Recipe) where
   abbrev At : Task ℕ → Type 0

@@ -2,7 +2,7 @@
 -- section 7.2. Each rule stands under its own name, and says where document 01 has us differ. Figure 4 numbers no rule;
 -- the numbers are those of section 7.2.
 -- Assumes nothing.
-use Prim.Native.Nat.{ℕ, suc, _≤_}
+use Prim.Native.Nat.{ℕ, suc, _≤_, _<_}
 use mathlib.Core.Path.{_≡_}
 use mathlib.Core.Bool.{true, false}
 use mathlib.Core.Option.{Option, none, some}
@@ -14,7 +14,7 @@ use Rattle.rules.specs.Recipe.{Expr, skip, assign, if, while, spawn, suspend, a
 use Rattle.rules.specs.Rest.{_then_}
 use Rattle.rules.specs.State.{Task, Store, Configuration}
 use Rattle.rules.specs.Log.{Event, spawned, taken, gave, waits, turned, ended}
-use Rattle.rules.specs.Scheduler.{Limit}
+use Rattle.rules.specs.Scheduler.{Limit, logOf}
 use Rattle.rules.specs.Steps.{Limits, valveOf}
 
 -- ---- configurations
@@ -121,11 +121,6 @@ next-id σ = suc (σ .issued)
 abbrev pub put-id : Store → (z : ℤ) → (x : ℕ) → Env
 put-id σ z x = write (env σ z) x (pos (next-id σ))
 
--- the records of an event
-abbrev pub logged : Option Event → List Event
-logged none = []
-logged (some x) = x ∷ []
-
 module _ (full : Limits) (r : Recipe) where
   pub data Rule : PaperState → Option Event → PaperState → Type 0 where
     -- Local; (22).
@@ -136,8 +131,10 @@ module _ (full : Limits) (r : Recipe) where
         event
         (running (task f s′ (σ′ .parameter)) q (memory n σ′))
     -- SpawnStart, with the queue of figure 5; (22) and then (18), whose task marker is here the procedure's statements.
-    -- "f′ ∉ dom(T) ∪ {f}": f′ is the next number, which no task has had. We differ by the premise on limits.
+    -- "f′ ∉ dom(T) ∪ {f}": f′ is the next number, which no task has had. "m(z){s′} ∈ M": the recipe has a procedure m.
+    -- We differ by the premise on limits.
     spawn-start : {f x m : ℕ} {e : Expr} {s : Body} {z : ℤ} {q : Queue} {σ : Store}
+        → m < length r
         → full (length q) (σ .issued) ≡ none
         → Rule
         (running (task f (spawn x m e ▸ s) z) q σ)
@@ -189,7 +186,7 @@ module _ (full : Limits) (r : Recipe) where
     rule-then : {c d e : PaperState} {event : Option Event} {n : ℕ} {log : List Event}
         → Rule c event d
         → Derivation d n log e
-        → Derivation c (suc n) (logged event ++ log) e
+        → Derivation c (suc n) (logOf event ++ log) e
 
   -- the next statement is a spawn, and a limit stops it
   pub data Barred (l : Limit) : PaperState → Type 0 where
@@ -214,7 +211,7 @@ pub data Name : Type 0 where
 
 abbrev pub nameOf : {full : Limits} {r : Recipe} {c d : PaperState} {event : Option Event} → Rule full r c event d → Name
 nameOf (local h) = Local
-nameOf (spawn-start h) = SpawnStart
+nameOf (spawn-start d h) = SpawnStart
 nameOf return = Return
 nameOf yield-suspend = YieldSuspend
 nameOf yield-await = YieldAwait

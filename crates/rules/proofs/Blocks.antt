@@ -9,10 +9,9 @@ use Rattle.rules.specs.Places.{isPlace}
 use Rattle.rules.specs.State.{State, checkBlock, readBlock, writeBlock}
 use Rattle.rules.specs.Demand.{Bytes}
 use Rattle.rules.proofs.Fit.{Fit}
-use Rattle.rules.proofs.Numbers.{every-bytes}
 use Accepted.{accepted, checked}
 use Read.{read-fits, written-again}
-use Write.{accepted-again, read-again, written-bytes}
+use Write.{accepted-again, read-again}
 pub mod Accepted
 pub mod Counts
 pub mod Read
@@ -29,6 +28,3 @@ fit-write r c f = checked (isPlace r) (writeBlock c) (accepted-again r c f)
 
 pub read-write : (r : Recipe) (c : State) → Fit r c → readBlock (writeBlock c) ≡ c
 read-write r c f = read-again r c f
-
-pub write-bytes : (r : Recipe) (c : State) → Fit r c → Bytes (writeBlock c)
-write-bytes r c f = every-bytes (writeBlock c) (written-bytes r c f)

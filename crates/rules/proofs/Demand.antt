@@ -1,6 +1,6 @@
 -- Demand 3 and "continued equals one run", for every table, every block and every list of calls.
 -- Assumes nothing.
-use Prim.Native.Nat.{ℕ, _+_, _*_}
+use Prim.Native.Nat.{ℕ, _+_, _*_, _≤_}
 use mathlib.Core.Path.{_≡_, refl, sym, ap, ap₂, _∙_, subst, subst₂}
 use mathlib.Core.Logic.{_⊎_, ⊎-elim}
 use mathlib.Core.Bool.{true, false≢true}
@@ -16,14 +16,15 @@ use Rattle.rules.specs.Log.{Event, logBytes, eventRow}
 use Rattle.rules.specs.Scheduler.{Run, run, ending, last, stepsOf, log, Ending, logfull, numberOf}
 use Rattle.rules.specs.Steps.{recipes}
 use Rattle.rules.specs.Run.{Outcome, outcome, roomOf, Opened, refuses, opens, openWith, openOn, runWith, runOn}
-use Rattle.rules.specs.Moments.{answers, finally}
-use Rattle.rules.specs.Fairness.{steps, allSteps, allLogs, Allowed}
-use Rattle.rules.specs.Demand.{Bytes, Given, outcomes, lastBlock, stepsSaid, written, logsWritten, callOf, AllRefused, AllRun, DemandOf, Demand, Made, Chained, Meets, Continues, ContinuedIsOne}
+use Rattle.rules.specs.Moments.{Call, call, answers, finally}
+use Rattle.rules.specs.Fairness.{allSteps, allLogs, allEndings, Allowed}
+use Rattle.rules.specs.Demand.{Bytes, Given, outcomes, lastBlock, stepsSaid, written, logsWritten, numbersSaid, calls, AllRefused, AllRun, DemandOf, Demand, Made, Chained, Meets, Continues, ContinuedIsOne}
 use Rattle.rules.specs.Answers as A
 use Rattle.rules.proofs.Answers.{log-length, opened-number}
-use Rattle.rules.proofs.Scheduling.Whole.{steps-add, logs-join, one-run-unfilled}
+use Rattle.rules.proofs.Scheduling.Whole.{steps-add, logs-join, endings-said, one-run}
 use Rattle.rules.proofs.Fit.{Fit}
 use Rattle.rules.proofs.Steps.{run-fits, demand-of-recipes}
+use Rattle.rules.proofs.Issued.{never-twice}
 use Rattle.rules.proofs.Blocks.{fit-read, write-read, fit-write, read-write}
 use Rattle.rules.proofs.Grammar.Theorem.{accepted-spells}
 
@@ -81,6 +82,7 @@ written-is r u l = take-at (logBytes (log (recipes r) u)) (drop (8 * length (log
 record OneCall (t : List ℕ) (r : Recipe) (c : State) (n : ℕ) (l : List ℕ) : Type 0 where
   numbered : runOn t (writeBlock c) n l .number ≡ numberOf (ending (recipes r) (run (recipes r) n (roomOf l) c))
   counted : runOn t (writeBlock c) n l .steps ≡ stepsOf (recipes r) (run (recipes r) n (roomOf l) c)
+  recorded : runOn t (writeBlock c) n l .records ≡ length (log (recipes r) (run (recipes r) n (roomOf l) c))
   logged : written (runOn t (writeBlock c) n l) ≡ logBytes (log (recipes r) (run (recipes r) n (roomOf l) c))
   left : runOn t (writeBlock c) n l .block ≡ writeBlock (last (recipes r) (run (recipes r) n (roomOf l) c))
 
@@ -92,50 +94,61 @@ module _ (t : List ℕ) (r : Recipe) (w : Within r) (h : check t ≡ fine) (e : 
       record {
         numbered = ap (λ o. o .number) i;
         counted = ap (λ o. o .steps) i;
+        recorded = ap (λ o. o .records) i;
         logged = ap written i ∙ written-is r (run (recipes r) n (roomOf l) c) l;
         left = ap (λ o. o .block) i;
       }
 
   -- ---- a list of calls
 
+  abbrev called : Given → Call
+  called g = call (g .budget) (roomOf (g .buffer))
+
   record Answered (c : State) (gs : List Given) : Type 0 where
-    counted : stepsSaid (outcomes t (writeBlock c) gs) ≡ allSteps (recipes r) (answers (recipes r) c (map callOf gs))
-    logged : logsWritten (outcomes t (writeBlock c) gs) ≡ logBytes (allLogs (recipes r) (answers (recipes r) c (map callOf gs)))
-    left : lastBlock t (writeBlock c) gs ≡ writeBlock (finally (recipes r) c (map callOf gs))
+    calls-are : calls t (writeBlock c) gs ≡ map called gs
+    counted : stepsSaid (outcomes t (writeBlock c) gs) ≡ allSteps (recipes r) (answers (recipes r) c (map called gs))
+    logged : logsWritten (outcomes t (writeBlock c) gs) ≡ logBytes (allLogs (recipes r) (answers (recipes r) c (map called gs)))
+    numbered : numbersSaid (outcomes t (writeBlock c) gs) ≡ map numberOf (allEndings (recipes r) (answers (recipes r) c (map called gs)))
+    left : lastBlock t (writeBlock c) gs ≡ writeBlock (finally (recipes r) c (map called gs))
 
   answered : (gs : List Given) (c : State) → Fit r c → Answered c gs
-  unfolding outcomes lastBlock stepsSaid logsWritten logBytes
-  answered [] c f = record { counted = refl; logged = refl; left = refl }
+  unfolding outcomes lastBlock stepsSaid logsWritten logBytes calls
+  answered [] c f = record { calls-are = refl; counted = refl; logged = refl; numbered = refl; left = refl }
   answered (g ∷ gs) c f =
       let u = run (recipes r) (g .budget) (roomOf (g .buffer)) c in
       let i = one-call c (g .budget) (g .buffer) f in
       let d = answered gs (last (recipes r) u) (run-fits r w (g .budget) (roomOf (g .buffer)) c f) in
       record {
+        calls-are = rw (opens-again t r c h e f, i .left, d .calls-are) refl;
         counted = rw (i .counted, i .left, d .counted) refl;
-        logged = rw (i .logged, i .left, d .logged) (sym (log-append (log (recipes r) u) (allLogs (recipes r) (answers (recipes r) (last (recipes r) u) (map callOf gs)))));
+        logged = rw (i .logged, i .left, d .logged) (sym (log-append (log (recipes r) u) (allLogs (recipes r) (answers (recipes r) (last (recipes r) u) (map called gs)))));
+        numbered = rw (i .numbered, i .left, d .numbered) refl;
         left = rw (i .left) (d .left);
       }
 
-  allowed : (c : State) → Fit r c → (gs : List Given) → Allowed (recipes r) c (map callOf gs)
+  allowed : (c : State) → Fit r c → (gs : List Given) → Allowed (recipes r) c (map called gs)
   allowed c f [] = tt
   allowed c f (g ∷ gs) = f .valid
 
   all-run : (c : State) → Fit r c → (gs : List Given) → AllRun r c t (writeBlock c) gs
   all-run c f gs =
       let a = answered gs c f in
+      let cs = map called gs in
       record {
-        demand = demand-of-recipes r c (map callOf gs) (allowed c f gs);
-        counted = a .counted ∙ steps-add (recipes r) c (map callOf gs);
-        logged = a .logged ∙ ap logBytes (logs-join (recipes r) c (map callOf gs));
-        block-left = a .left;
+        demand = rw (a .calls-are) (demand-of-recipes r c cs (allowed c f gs));
+        counted = rw (a .calls-are) (a .counted ∙ steps-add (recipes r) c cs);
+        logged = rw (a .calls-are) (a .logged ∙ ap logBytes (logs-join (recipes r) c cs));
+        block-left = rw (a .calls-are) (a .left);
+        numbered = rw (a .calls-are) (a .numbered ∙ ap (λ (l : List Ending). map numberOf l) (endings-said (recipes r) c cs));
+        never-twice = never-twice r c (calls t (writeBlock c) gs);
       }
 
 all-refused : (t b : List ℕ) (n i : ℕ) → openOn t b ≡ refuses n i → (gs : List Given) → AllRefused n i t b gs
-unfolding outcomes lastBlock runOn
-all-refused t b n i e [] = record { each = refl; block-kept = refl }
+unfolding outcomes lastBlock runOn calls
+all-refused t b n i e [] = record { each = refl; block-kept = refl; no-moments = λ r c. refl }
 all-refused t b n i e (g ∷ gs) =
     let d = all-refused t b n i e gs in
-    record { each = rw (e, d .each) refl; block-kept = rw e (d .block-kept) }
+    record { each = rw (e, d .each) refl; block-kept = rw e (d .block-kept); no-moments = λ r c. rw e (d .no-moments r c) }
 
 -- Demand 3, for every list of run calls on any table and any block.
 pub demand : (t b : List ℕ) → Bytes t → Bytes b → (gs : List Given) → Demand t b gs
@@ -173,16 +186,13 @@ module _ (t : List ℕ) (r : Recipe) (w : Within r) (h : check t ≡ fine) (e : 
   abbrev v : Run (recipes r)
   v = run (recipes r) n′ (roomOf l′) (last (recipes r) u)
 
-  abbrev both : Run (recipes r)
-  both = run (recipes r) (stepsOf (recipes r) u + n′) (roomOf whole) c
-
   two-calls : let o = runOn t (writeBlock c) n l in let p = runOn t (writeBlock (last (recipes r) u)) n′ l′ in let q = runOn t (writeBlock c) (stepsOf (recipes r) u + n′) whole in
-      ¬ (p .number ≡ 5) → ¬ (q .number ≡ 5) → Continues o p q
-  two-calls p5 q5 =
+      ¬ (p .number ≡ 5) → 8 * (o .records + p .records) ≤ length whole → Continues o p q
+  two-calls p5 long =
       let a = one-call t r w h e c n l f in
       let b = one-call t r w h e (last (recipes r) u) n′ l′ (run-fits r w n (roomOf l) c f) in
       let d = one-call t r w h e c (stepsOf (recipes r) u + n′) whole f in
-      let x = one-run-unfilled (recipes r) c n (roomOf l) n′ (roomOf l′) (roomOf whole) (not-full (ending (recipes r) v) _ (b .numbered) p5) (not-full (ending (recipes r) both) _ (d .numbered) q5) in
+      let x = one-run (recipes r) c n (roomOf l) n′ (roomOf l′) (roomOf whole) (not-full (ending (recipes r) v) _ (b .numbered) p5) (omega (arith, a .recorded, b .recorded)) in
       record {
         same-state = d .left ∙ ap writeBlock (x .same-state) ∙ sym (b .left);
         same-ending = d .numbered ∙ ap numberOf (x .same-ending) ∙ sym (b .numbered);
@@ -193,7 +203,7 @@ module _ (t : List ℕ) (r : Recipe) (w : Within r) (h : check t ≡ fine) (e : 
 -- the same, of the block and the count that the first call leaves
 module _ (t : List ℕ) (n n′ : ℕ) (l l′ whole : List ℕ) where
   abbrev Together : (b b′ : List ℕ) → ℕ → Type 0
-  Together b b′ k = ¬ (runOn t b′ n′ l′ .number ≡ 5) → ¬ (runOn t b (k + n′) whole .number ≡ 5) → Continues (runOn t b n l) (runOn t b′ n′ l′) (runOn t b (k + n′) whole)
+  Together b b′ k = ¬ (runOn t b′ n′ l′ .number ≡ 5) → 8 * (runOn t b n l .records + runOn t b′ n′ l′ .records) ≤ length whole → Continues (runOn t b n l) (runOn t b′ n′ l′) (runOn t b (k + n′) whole)
 
   together : (b : List ℕ) (r : Recipe) (c : State) → Open t b r c → Together b (runOn t b n l .block) (runOn t b n l .steps)
   together b r c o =

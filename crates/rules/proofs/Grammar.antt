@@ -5,4 +5,5 @@ pub mod Checking
 pub mod Passing
 pub mod Spawns
 pub mod Accepting
+pub mod Bytes
 pub mod Theorem

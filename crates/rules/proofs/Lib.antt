@@ -1,6 +1,8 @@
+pub mod Computed
+pub mod Acceptance
+pub mod Print
 pub mod Verdicts
 pub mod Answers
-pub mod Trial
 pub mod Scheduling
 pub mod Lists
 pub mod Numbers
@@ -10,6 +12,9 @@ pub mod Standing
 pub mod Ranges
 pub mod Fit
 pub mod Steps
+pub mod Issued
 pub mod Blocks
+pub mod Faults
 pub mod Demand
+pub mod Says
 pub mod Witness

@@ -11,7 +11,6 @@ use lib.ListN.{length, getD, take, drop, set, length-append, length-drop, List·
 use lib.Seq.{length-take-le, take-all, take-add, take-at, take-suc-set, sets, sets-eq, take-append-le, drop-append-le, drop-at, drop-drop, drop-cons, getD-at, getD-take, getD-drop, ext-getD}
 use Rattle.rules.specs.State.{tab, joined}
 use Rattle.rules.specs.Fairness.{Every}
-use Rattle.rules.proofs.Answers.{joined-length}
 
 -- ---- every element
 
@@ -34,11 +33,6 @@ module _ {A : Type 0} (P : A → Type 0) where
 pub every-map : {A : Type 0} (P Q : A → Type 0) → ((x : A) → P x → Q x) → (xs : List A) → Every P xs → Every Q xs
 every-map P Q f [] h = tt
 every-map P Q f (x ∷ xs) h = (f x (h .0), every-map P Q f xs (h .1))
-
-pub every-joined : (P : ℕ → Type 0) (n : ℕ) (f : ℕ → List ℕ) → ((i : ℕ) → Every P (f i)) → Every P (joined n f)
-unfolding joined
-every-joined P zero f h = tt
-every-joined P (suc n) f h = every-append P (joined n f) (f n) (every-joined P n f h) (h n)
 
 -- ---- tab
 
@@ -93,6 +87,11 @@ getD-part b a k r j d h e = rw e (getD-take k (drop a b) r d h ∙ getD-drop a b
 
 -- ---- joined parts
 
+pub joined-length : (k n : ℕ) (f : ℕ → List ℕ) → ((i : ℕ) → length (f i) ≡ k) → length (joined n f) ≡ n * k
+unfolding joined
+joined-length k zero f h = omega arith
+joined-length k (suc n) f h = omega (arith, length-append (joined n f) (f n), joined-length k n f h, h n)
+
 pub joined-same : (f g : ℕ → List ℕ) (n : ℕ) → ((i : ℕ) → i < n → f i ≡ g i) → joined n f ≡ joined n g
 unfolding joined
 joined-same f g zero h = refl
@@ -119,10 +118,6 @@ module _ (k : ℕ) (f : ℕ → List ℕ) where
       rw (drop-append-le a (joined n f) (f n) (omega (arith, room l)), take-append-le k (drop a (joined n f)) (f n) (rw length-drop (omega (arith, room l))))
       (joined-part sized n i a l e))
       (eq-or-lt-of-le {n = i} {m = n} (omega arith))
-
-  pub getD-joined : ((i : ℕ) → length (f i) ≡ k) → (n i r j d : ℕ) → i < n → r < k → j ≡ i * k + r → getD (joined n f) j d ≡ getD (f i) r d
-  getD-joined sized n i r j d h l e =
-      sym (getD-part (joined n f) (i * k) k r j d l e) ∙ ap (λ (p : List ℕ). getD p r d) (joined-part sized n i (i * k) h refl)
 
   -- a list from a on, cut into such parts
   pub parts-joined : (a : ℕ) (b : List ℕ) (n : ℕ) → ((i : ℕ) → i < n → f i ≡ take k (drop (a + i * k) b)) → take a b ++ joined n f ≡ take (a + n * k) b

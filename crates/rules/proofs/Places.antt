@@ -198,6 +198,14 @@ fits-stands (await-fits c h) = refl
 place-at : (r : Recipe) → Within r → (i : ℕ) {k : Body} → rest r i ≡ some k → isPlace r i ≡ true
 place-at r w i e = fits-stands (subst (λ (o : Option Body). Fits (rest r) (length r) (at r i) o) e (fits r w i))
 
+-- a spawn that is to do next names a procedure
+spawns-in : {f : ℕ → Option Body} {n x m : ℕ} {p : Point ℕ} {e : Expr} {k : Body} → Fits f n p (some (spawn x m e ▸ k)) → m < n
+unfolding NamedS
+spawns-in (spawn-fits c h) = c .3
+
+pub spawn-named : (r : Recipe) → Within r → (i x m : ℕ) (e : Expr) (k : Body) → rest r i ≡ some (spawn x m e ▸ k) → m < length r
+spawn-named r w i x m e k h = spawns-in (subst (λ (o : Option Body). Fits (rest r) (length r) (at r i) o) h (fits r w i))
+
 module _ (r : Recipe) (w : Within r) where
   leads-to : {p : Point ℕ} {o : Option Body} → Fits (rest r) (length r) p o → Leads r p
   unfolding NamedS

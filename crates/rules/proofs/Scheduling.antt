@@ -6,5 +6,6 @@ pub mod Along
 pub mod Turns
 pub mod Stuck
 pub mod Whole
+pub mod Endings
 pub mod Loop
 pub mod Demand

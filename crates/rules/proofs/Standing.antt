@@ -2,15 +2,16 @@
 -- Assumes nothing.
 use Prim.Native.Nat.{ℕ, zero, suc, _+_, _*_, _≤_, _<_}
 use mathlib.Core.Path.{_≡_, refl, sym, ap, ap₂, _∙_, subst}
-use mathlib.Core.Bool.{true, _&&_, _||_}
+use mathlib.Core.Bool.{Bool, true, _&&_, _||_, cond}
 use mathlib.Core.List.{List, [], _∷_, _++_, append-assoc, append-nil}
 use native.Mathlib.Omega.{arith}
 use mathlib.Core.Logic.{dite}
-use native.Mathlib.Decide.{decLt}
+use native.Mathlib.Decide.{decLt, ℕ-discrete}
+use native.Mathlib.Nat.{add-zero}
 use lib.Dec.{eqb, leb}
 use lib.IntN.{ℤ, pos, natAbs}
 use lib.ListN.{length, getD, drop, replicate, length-append, length-drop, replicate-append-replicate, List·getD-eq-default}
-use lib.Seq.{drop-drop}
+use lib.Seq.{drop-drop, getD-drop}
 use borrow.Author.Tests.{eq-eqb, ne-eqb, le-leb, lt-leb}
 use Rattle.rules.specs.Demand.{Bytes}
 use Rattle.rules.specs.Recipe.{Expr, constant, variable, two, one, Stmt, skip, assign, if, while, spawn, suspend, await, Body, fin, _▸_, Recipe, sizeE, sizeS, sizeB, sizeR, row, encodeE, encodeS, encodeB, encode, NamedE, NamedS, NamedB, WithinR}
@@ -198,6 +199,15 @@ module _ (n : ℕ) where
       (allB b (i + 1) (i + 1 + sizeB b) (i + 1 + sizeB b) (pointsR r (i + 1 + sizeB b) stop) (encode r) refl (w .0 .named) (allR r (i + 1 + sizeB b) (w .1)))
 
 -- ---- a recipe's bytes, and a table's
+
+-- what holds of each point that a chain of tests leads to
+pub choose : (f : Point ℕ → Bool) (v : Bool) (n m : ℕ) (x y : Point ℕ) → f x ≡ v → (¬ (n ≡ m) → f y ≡ v)
+    → f (cond (eqb n m) x y) ≡ v
+choose f v n m x y h g = dite (ℕ-discrete n m) (λ e. rw (eq-eqb n m e) h) (λ e. rw (ne-eqb n m e) (g e))
+
+-- the kind of the record at a byte
+pub kind-at : (t : List ℕ) (off : ℕ) → kindOf (drop off t) ≡ getD t off 0
+kind-at t off = getD-drop off t 0 0 ∙ ap (λ (j : ℕ). getD t j 0) (add-zero off)
 
 -- behind index 0 it does not matter what stands there
 later : (r : Recipe) (i : ℕ) → 1 ≤ i → at r i ≡ getD (pointsR r 0 stop) i nowhere

@@ -30,11 +30,11 @@ use Rattle.rules.proofs.Fit.{StoreFit, TaskFit, Fit}
 use Rattle.rules.proofs.Places.{Leads, leads, start-place, place-bound}
 use Rattle.rules.proofs.Ranges.{either, value-fits, EnvFit, write-fits}
 
-is-le : (b : Bool) → is b ≤ 1
+pub is-le : (b : Bool) → is b ≤ 1
 is-le true = omega arith
 is-le false = omega arith
 
-is-other : (a b : ℕ) → ¬ (a ≡ b) → is (eqb a b) ≡ 0
+pub is-other : (a b : ℕ) → ¬ (a ≡ b) → is (eqb a b) ≡ 0
 is-other a b n = ap is (ne-eqb a b n)
 
 module _ {A : Type 0} (see : A → Point A) (begin : ℕ → A) (full : Limits) where
@@ -222,6 +222,6 @@ step-fits r w c c′ x f e = subst (λ y. NextFit r w y) e (next-fits r w (c .st
 
 -- so a run call leaves an accepted state
 pub run-fits : (r : Recipe) → Within r → (b k : ℕ) (c : State) → Fit r c → Fit r (last (recipes r) (run (recipes r) b k c))
-run-fits r w = by-test (recipes r) (λ b c u. Fit r c → Fit r (last (recipes r) u))
+run-fits r w = by-test (recipes r) (λ b k c u. Fit r c → Fit r (last (recipes r) u))
     (λ b k c e h f. f)
     (λ b k c x c′ h l ih f. ih (step-fits r w c c′ x f h))

@@ -45,12 +45,21 @@ module _ (R : Rules) where
   steps (m ∷ ms) = stepBy (m .what) + steps ms
 
   abbrev pub recordBy : Does R → List (R .Event)
-  recordBy (made x) = logOf R x
+  recordBy (made x) = logOf x
   recordBy (ends e) = []
 
   abbrev pub records : List (Moment R) → List (R .Event)
   records [] = []
   records (m ∷ ms) = recordBy (m .what) ++ records ms
+
+  -- how the calls end at these moments
+  abbrev pub endedBy : Does R → List Ending
+  endedBy (made x) = []
+  endedBy (ends e) = e ∷ []
+
+  abbrev pub endings : List (Moment R) → List Ending
+  endings [] = []
+  endings (m ∷ ms) = endedBy (m .what) ++ endings ms
 
   abbrev pub allSteps : List (Run R) → ℕ
   allSteps [] = 0
@@ -59,6 +68,10 @@ module _ (R : Rules) where
   abbrev pub allLogs : List (Run R) → List (R .Event)
   allLogs [] = []
   allLogs (u ∷ us) = log R u ++ allLogs us
+
+  abbrev pub allEndings : List (Run R) → List Ending
+  allEndings [] = []
+  allEndings (u ∷ us) = ending R u ∷ allEndings us
 
   -- the moments are a chain of steps by the rules, from c to c′
   abbrev pub LinkedBy : Does R → (Config R → Type 0) → Config R → Type 0
@@ -213,10 +226,12 @@ module _ (R : Rules) where
   -- ---- demand 3: what holds of the calls cs, each on the state that the last one left, the first on c
 
   pub record Demand3 (c : Config R) (cs : List Call) : Type 0 where
-    -- The steps are a chain by the rules from the first state to the last; the counts returned add up to their number, the logs joined are their records.
+    -- The steps are a chain by the rules from the first state to the last; the counts returned add up to their number, the logs joined are their records,
+    -- and the calls end as their moments say.
     pub chain : Linked (trace R c cs) c (finally R c cs)
     pub counts : allSteps (answers R c cs) ≡ steps (trace R c cs)
     pub logs : allLogs (answers R c cs) ≡ records (trace R c cs)
+    pub numbers : allEndings (answers R c cs) ≡ endings (trace R c cs)
     -- The moments from m on are those of m's calls: the present one with what it has left, and the later ones.
     pub from-then : (pre post : List (Moment R)) (m : Moment R) → trace R c cs ≡ pre ++ (m ∷ post) → m ∷ post ≡ trace R (m .at) (m .calls)
     -- "between two successive tries of one task, each task that stood ahead of it when it was put back is tried exactly once, in that order, and no other":

@@ -5,7 +5,8 @@ use mathlib.Core.Path.{_≡_}
 use mathlib.Core.Logic.{_↔_}
 use mathlib.Core.List.{List}
 use Rattle.rules.specs.Recipe.{Recipe, encode, Within}
-use Rattle.rules.specs.Table.{check, fine}
+use Rattle.rules.specs.Table.{check, fine, recipeOf}
+use Rattle.rules.specs.Demand.{Bytes}
 
 -- a table spells a recipe: it is the recipe's bytes, and the recipe is within the limits
 pub record Spells (t : List ℕ) (r : Recipe) : Type 0 where
@@ -14,12 +15,13 @@ pub record Spells (t : List ℕ) (r : Recipe) : Type 0 where
 
 pub record Grammar (t : List ℕ) : Type 0 where
   pub accepted : (check t ≡ fine) ↔ ((r : Recipe) × Spells t r)
-  -- a table spells at most one recipe
-  pub one-recipe : (r r′ : Recipe) → Spells t r → Spells t r′ → r ≡ r′
+  -- an accepted table spells the recipe that is run, and no other
+  pub spells : check t ≡ fine → Spells t (recipeOf t)
+  pub one-recipe : (r : Recipe) → Spells t r → r ≡ recipeOf t
 
--- each recipe within the limits has a table, which is accepted, and no other
+-- each recipe within the limits has a table: bytes that are accepted and read as it; and any bytes of which that holds are this table
 pub record OneTable (r : Recipe) : Type 0 where
-  pub table : List ℕ
-  pub accepted : check table ≡ fine
-  pub spells : Spells table r
-  pub only : (t : List ℕ) → Spells t r → t ≡ table
+  pub bytes : Bytes (encode r)
+  pub accepted : check (encode r) ≡ fine
+  pub reads : recipeOf (encode r) ≡ r
+  pub only : (t : List ℕ) → Bytes t → check t ≡ fine → recipeOf t ≡ r → t ≡ encode r

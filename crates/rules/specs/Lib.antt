@@ -6,12 +6,15 @@ pub mod Grammar
 pub mod Places
 pub mod Standing
 pub mod State
+pub mod Faults
 pub mod Log
 pub mod Scheduler
 pub mod Steps
 pub mod Run
+pub mod Print
 pub mod Answers
 pub mod Trial
+pub mod PrintRows
 pub mod Moments
 pub mod Fairness
 pub mod Demand

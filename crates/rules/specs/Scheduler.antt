@@ -119,6 +119,11 @@ module _ (R : Rules) where
   abbrev pub next : Config → Next
   next c = nextOf c (c .active)
 
+-- the records of a step's event, if it writes one
+abbrev pub logOf : {Event : Type 0} → Option Event → List Event
+logOf none = []
+logOf (some x) = x ∷ []
+
 -- How a run call ends, and the number that it returns.
 pub data Ending : Type 0 where
   finished paused stuck logfull : Ending
@@ -168,10 +173,6 @@ module _ (R : Rules) where
   abbrev pub run : (budget room : ℕ) → Config R → Run
   run zero r c = carry (test zero r (next R c)) (λ x c′. end paused c′) c
   run (suc b) r c = carry (test (suc b) r (next R c)) (λ x c′. run b (r - size x) c′) c
-
-  abbrev pub logOf : Option Event → List Event
-  logOf none = []
-  logOf (some x) = x ∷ []
 
   abbrev pub ending : Run → Ending
   ending (end e c) = e

@@ -1,31 +1,53 @@
--- Document 01, "From the trial press": the starred rows as one table, some rows more, and what it is to pass a row.
+-- Document 01, "From the trial press": the starred rows and rows beside them as one table, and what it is to pass a row.
 -- Assumes nothing.
-use Prim.Native.Nat.{ℕ, _*_}
+use Prim.Native.Nat.{ℕ, zero, suc, _+_, _-_, _*_, _/_}
 use mathlib.Core.Bool.{Bool, true, false, _&&_}
 use mathlib.Core.Option.{Option, none, some}
 use mathlib.Core.List.{List, [], _∷_, _++_}
 use lib.Dec.{eqb}
 use lib.IntN.{ℤ, pos, negsuc}
-use lib.ListN.{take, replicate}
+use lib.ListN.{length, take, replicate}
+use Rattle.rules.specs.Fields.{bits, bytes2, bytes4}
+use Rattle.rules.specs.Values.{lowest, highest}
 use Rattle.rules.specs.Recipe.{row}
-use Rattle.rules.specs.Run.{startOn, Outcome, runOn}
+use Rattle.rules.specs.Run.{Started, startOn, Outcome, runOn}
 
--- A table, the budget and the log's room in records; the number returned, the steps, the place, and all that is logged where the row says it.
+-- A table, a block (the one that start writes, if none is given), the budget and the log buffer's length; the number returned, the steps, the place, and
+-- all that is logged and the block left where the row says it.
 pub record Row : Type 0 where
   pub table : List ℕ
+  pub block : Option (List ℕ)
   pub budget : ℕ
   pub room : ℕ
   pub number : ℕ
   pub steps : ℕ
   pub place : ℕ
   pub log : Option (List ℕ)
+  pub left : Option (List ℕ)
 
 -- "with budget and log long enough unless said otherwise"
 abbrev pub run : List ℕ → ℕ → ℕ → Option (List ℕ) → Row
-run t n s l = record { table = t; budget = 1000; room = 100; number = n; steps = s; place = 0; log = l }
+run t n s l = record { table = t; block = none; budget = 1000; room = 800; number = n; steps = s; place = 0; log = l; left = none }
+
+-- with this budget and so many bytes of log
+abbrev pub within : (budget room : ℕ) → List ℕ → ℕ → ℕ → Row
+within b r t n s = record { table = t; block = none; budget = b; room = r; number = n; steps = s; place = 0; log = none; left = none }
+
+-- from this block; with this log; leaving this block
+abbrev pub from : List ℕ → Row → Row
+from b x =
+    record { table = x .table; block = some b; budget = x .budget; room = x .room; number = x .number; steps = x .steps; place = x .place; log = x .log; left = x .left }
+
+abbrev pub logs : List ℕ → Row → Row
+logs l x =
+    record { table = x .table; block = x .block; budget = x .budget; room = x .room; number = x .number; steps = x .steps; place = x .place; log = some l; left = x .left }
+
+abbrev pub leaves : List ℕ → Row → Row
+leaves b x =
+    record { table = x .table; block = x .block; budget = x .budget; room = x .room; number = x .number; steps = x .steps; place = x .place; log = x .log; left = some b }
 
 abbrev pub refused : List ℕ → ℕ → ℕ → Row
-refused t n i = record { table = t; budget = 1000; room = 100; number = n; steps = 0; place = i; log = some [] }
+refused t n i = record { table = t; block = none; budget = 1000; room = 800; number = n; steps = 0; place = i; log = some []; left = none }
 
 -- "Tables are written as kind(name, span, value)." (A log record has the same layout: kind, valve, task, value.)
 abbrev pub rowA : List ℕ
@@ -58,11 +80,40 @@ rowE = row 1 0 0 (pos 0)
 abbrev pub rowF : List ℕ
 rowF = row 1 0 4 (pos 0) ++ row 5 0 3 (pos 0) ++ row 9 0 0 (pos 1) ++ row 6 8 1 (pos 1) ++ row 9 0 0 (pos 0) ++ row 1 0 0 (pos 0)
 
--- a value row: valve 0 is set to a operator b, and the log shows that it is z
-abbrev pub sets : (operator : ℕ) → ℤ → ℤ → ℤ → Row
-sets o a b z =
-    run (row 1 0 4 (pos 0) ++ row 3 0 3 (pos 0) ++ row 11 o 2 (pos 0) ++ row 9 0 0 a ++ row 9 0 0 b) 0 2
-    (some (row 7 0 1 z ++ row 6 0 1 (pos 0)))
+-- ---- values
+
+-- a operator b is z
+pub record Case : Type 0 where
+  pub left : ℤ
+  pub right : ℤ
+  pub result : ℤ
+
+abbrev pub is : ℤ → ℤ → ℤ → Case
+is a b z = record { left = a; right = b; result = z }
+
+-- the number −n
+abbrev pub minus : ℕ → ℤ
+minus zero = pos 0
+minus (suc n) = negsuc n
+
+-- valve 0 is set to each result, and the log shows it: for two operands and for one
+abbrev pub setsTwo : ℕ → List Case → List ℕ
+setsTwo o [] = []
+setsTwo o (c ∷ cs) = row 3 0 3 (pos 0) ++ row 11 o 2 (pos 0) ++ row 9 0 0 (c .left) ++ row 9 0 0 (c .right) ++ setsTwo o cs
+
+abbrev pub setsOne : ℕ → List Case → List ℕ
+setsOne o [] = []
+setsOne o (c ∷ cs) = row 3 0 2 (pos 0) ++ row 12 o 1 (pos 0) ++ row 9 0 0 (c .left) ++ setsOne o cs
+
+abbrev pub shown : List Case → List ℕ
+shown [] = row 6 0 1 (pos 0)
+shown (c ∷ cs) = row 7 0 1 (c .result) ++ shown cs
+
+abbrev pub two : (operator : ℕ) → List Case → Row
+two o cs = run (row 1 0 (4 * length cs) (pos 0) ++ setsTwo o cs) 0 (length cs + 1) (some (shown cs))
+
+abbrev pub one : (operator : ℕ) → List Case → Row
+one o cs = run (row 1 0 (3 * length cs) (pos 0) ++ setsOne o cs) 0 (length cs + 1) (some (shown cs))
 
 abbrev pub starred : List Row
 starred =
@@ -71,15 +122,39 @@ starred =
     ∷ run rowC 2 1 none
     ∷ run rowD 2 2 none
     ∷ run rowE 0 1 none
-    ∷ record { table = rowE; budget = 0; room = 100; number = 1; steps = 0; place = 0; log = none }
+    ∷ within 0 800 rowE 1 0
     ∷ run rowF 3 63 none
-    ∷ sets 0 (pos 2147483647) (pos 1) (pos 2147483647)
-    ∷ sets 3 (negsuc 6) (pos 2) (negsuc 2)
-    ∷ sets 3 (negsuc 2147483647) (negsuc 0) (pos 2147483647)
-    ∷ sets 3 (pos 5) (pos 0) (pos 0)
+    ∷ two 0 (is highest (pos 1) highest ∷ [])
+    ∷ two 3 (is (minus 7) (pos 2) (minus 3) ∷ is lowest (minus 1) highest ∷ is (pos 5) (pos 0) (pos 0) ∷ [])
     ∷ []
 
--- Rows beside these: the other "Wrong readings that look natural", and one table for each number of a fault.
+-- ---- rows beside these
+
+-- each operator with each sign that tells it from its neighbours, and at the ends of the range
+abbrev pub operators : List Row
+operators =
+    two 0 (is (pos 7) (pos 2) (pos 9) ∷ is (minus 7) (pos 2) (minus 5) ∷ is (minus 7) (minus 2) (minus 9) ∷ is lowest (minus 1) lowest ∷ is highest lowest (minus 1) ∷ [])
+    ∷ two 1 (is (pos 7) (pos 2) (pos 5) ∷ is (pos 2) (pos 7) (minus 5) ∷ is (minus 7) (minus 2) (minus 5) ∷ is lowest (pos 1) lowest ∷ is highest (minus 1) highest ∷ is (pos 0) lowest highest ∷ [])
+    ∷ two 2 (is (pos 7) (pos 2) (pos 14) ∷ is (minus 7) (pos 2) (minus 14) ∷ is (minus 7) (minus 2) (pos 14) ∷ is (pos 65536) (pos 65536) highest ∷ is (pos 65536) (minus 65536) lowest ∷ is lowest (minus 1) highest ∷ is (pos 0) (minus 7) (pos 0) ∷ [])
+    ∷ two 3 (is (pos 7) (minus 2) (minus 3) ∷ is (minus 7) (minus 2) (pos 3) ∷ is (pos 7) (pos 2) (pos 3) ∷ is (minus 1) (pos 2) (pos 0) ∷ is (minus 5) (pos 0) (pos 0) ∷ is lowest (pos 1) lowest ∷ [])
+    ∷ two 4 (is (pos 1) (pos 2) (pos 1) ∷ is (pos 2) (pos 1) (pos 0) ∷ is (pos 2) (pos 2) (pos 0) ∷ is (minus 2) (minus 1) (pos 1) ∷ is (minus 1) (minus 2) (pos 0) ∷ is (minus 1) (pos 0) (pos 1) ∷ is (pos 0) (minus 1) (pos 0) ∷ is lowest highest (pos 1) ∷ is highest lowest (pos 0) ∷ [])
+    ∷ two 5 (is (pos 2) (pos 2) (pos 1) ∷ is (pos 2) (pos 3) (pos 0) ∷ is (minus 2) (minus 2) (pos 1) ∷ is (minus 2) (minus 3) (pos 0) ∷ is (minus 1) (pos 1) (pos 0) ∷ is (pos 0) (minus 1) (pos 0) ∷ is lowest lowest (pos 1) ∷ is lowest highest (pos 0) ∷ [])
+    ∷ two 6 (is (pos 5) (pos 7) (pos 1) ∷ is (pos 5) (pos 0) (pos 0) ∷ is (pos 0) (pos 5) (pos 0) ∷ is (pos 0) (pos 0) (pos 0) ∷ is (minus 1) (minus 2) (pos 1) ∷ is (minus 1) (pos 0) (pos 0) ∷ [])
+    ∷ two 7 (is (pos 5) (pos 7) (pos 1) ∷ is (pos 5) (pos 0) (pos 1) ∷ is (pos 0) (pos 5) (pos 1) ∷ is (pos 0) (pos 0) (pos 0) ∷ is (minus 1) (pos 0) (pos 1) ∷ is (pos 0) (minus 2) (pos 1) ∷ is (minus 1) (minus 2) (pos 1) ∷ [])
+    ∷ one 0 (is (pos 5) (pos 0) (minus 5) ∷ is (minus 5) (pos 0) (pos 5) ∷ is (pos 0) (pos 0) (pos 0) ∷ is lowest (pos 0) highest ∷ is highest (pos 0) (minus 2147483647) ∷ [])
+    ∷ one 1 (is (pos 0) (pos 0) (pos 1) ∷ is (pos 1) (pos 0) (pos 0) ∷ is (pos 5) (pos 0) (pos 0) ∷ is (minus 1) (pos 0) (pos 0) ∷ [])
+    ∷ []
+
+-- sets of 7, 8, 63 and 64: a record for a valve alone; what was set is read back
+abbrev pub names : List ℕ
+names =
+    row 1 0 12 (pos 0) ++ row 3 7 1 (pos 0) ++ row 9 0 0 (pos 4) ++ row 3 8 1 (pos 0) ++ row 9 0 0 (pos 5) ++ row 3 63 1 (pos 0) ++ row 9 0 0 (minus 6)
+    ++ row 3 64 1 (pos 0) ++ row 10 63 0 (pos 0) ++ row 3 1 1 (pos 0) ++ row 10 8 0 (pos 0) ++ row 3 0 1 (pos 0) ++ row 10 64 0 (pos 0)
+
+-- what a fresh state holds: the parameter, a variable, and valve 0 itself
+abbrev pub atFirst : List ℕ
+atFirst = row 1 0 6 (pos 0) ++ row 3 1 1 (pos 0) ++ row 10 64 0 (pos 0) ++ row 3 2 1 (pos 0) ++ row 10 63 0 (pos 0) ++ row 3 3 1 (pos 0) ++ row 10 0 0 (pos 0)
+
 -- Two spawned tasks are taken up in the order of their spawns.
 abbrev pub twoSpawns : List ℕ
 twoSpawns =
@@ -91,19 +166,283 @@ setLater =
     row 1 0 3 (pos 0) ++ row 6 8 1 (pos 1) ++ row 9 0 0 (pos 0) ++ row 8 9 0 (pos 0)
     ++ row 1 0 2 (pos 0) ++ row 3 9 1 (pos 0) ++ row 10 8 0 (pos 0)
 
-abbrev pub others : List Row
-others =
-    run twoSpawns 0 7
+-- A task spawned into its own parameter has the argument that the old parameter gave, and its number is then the parameter.
+abbrev pub spawnOwn : List ℕ
+spawnOwn =
+    row 1 0 6 (pos 0) ++ row 3 64 1 (pos 0) ++ row 9 0 0 (pos 9) ++ row 6 64 1 (pos 1) ++ row 10 64 0 (pos 0) ++ row 3 0 1 (pos 0) ++ row 10 64 0 (pos 0)
+    ++ row 1 0 2 (pos 0) ++ row 3 1 1 (pos 0) ++ row 10 64 0 (pos 0)
+
+-- The number 1 is done once main has ended, which it does before the task that waits for it.
+abbrev pub waitForMain : List ℕ
+waitForMain =
+    row 1 0 2 (pos 0) ++ row 6 8 1 (pos 1) ++ row 9 0 0 (pos 0) ++ row 1 0 3 (pos 0) ++ row 3 9 1 (pos 0) ++ row 9 0 0 (pos 1) ++ row 8 9 0 (pos 0)
+
+-- main waits for a number that is never issued
+abbrev pub waitFor : ℤ → List ℕ
+waitFor z = row 1 0 3 (pos 0) ++ row 3 8 1 (pos 0) ++ row 9 0 0 z ++ row 8 8 0 (pos 0)
+
+-- A suspend before the await of a number that is then done: the task is tested when tried, with no turn before.
+abbrev pub waitTried : List ℕ
+waitTried = row 1 0 4 (pos 0) ++ row 6 8 1 (pos 1) ++ row 9 0 0 (pos 0) ++ row 7 0 0 (pos 0) ++ row 8 8 0 (pos 0) ++ row 1 0 0 (pos 0)
+
+-- A skip between them: reached by the active task, the await joins the back though the number is done.
+abbrev pub waitDone : List ℕ
+waitDone =
+    row 1 0 5 (pos 0) ++ row 6 8 1 (pos 1) ++ row 9 0 0 (pos 0) ++ row 7 0 0 (pos 0) ++ row 2 0 0 (pos 0) ++ row 8 8 0 (pos 0) ++ row 1 0 0 (pos 0)
+
+-- "turned" has the value at the try, not the one of the wait.
+abbrev pub turnLater : List ℕ
+turnLater =
+    row 1 0 3 (pos 0) ++ row 6 8 1 (pos 1) ++ row 9 0 0 (pos 0) ++ row 8 9 0 (pos 0)
+    ++ row 1 0 3 (pos 0) ++ row 3 9 1 (pos 0) ++ row 9 0 0 (pos 7) ++ row 7 0 0 (pos 0)
+
+-- An if at the end of a while's body, taken and not taken; then what follows the while.
+abbrev pub loop : List ℕ
+loop =
+    row 1 0 16 (pos 0) ++ row 3 8 1 (pos 0) ++ row 9 0 0 (pos 2)
+    ++ row 5 0 11 (pos 0) ++ row 10 8 0 (pos 0) ++ row 3 0 1 (pos 0) ++ row 10 8 0 (pos 0)
+    ++ row 3 8 3 (pos 0) ++ row 11 1 2 (pos 0) ++ row 10 8 0 (pos 0) ++ row 9 0 0 (pos 1)
+    ++ row 4 0 3 (pos 0) ++ row 10 8 0 (pos 0) ++ row 3 1 1 (pos 0) ++ row 10 8 0 (pos 0)
+    ++ row 3 2 1 (pos 0) ++ row 9 0 0 (pos 9)
+
+-- "A body without statements counts as run through": an if or a while with this test, then a set of valve 0
+abbrev pub noBody : (kind : ℕ) → ℤ → List ℕ
+noBody k z = row 1 0 4 (pos 0) ++ row k 0 1 (pos 0) ++ row 9 0 0 z ++ row 3 0 1 (pos 0) ++ row 9 0 0 (pos 5)
+
+abbrev pub readings : List Row
+readings =
+    run names 0 7 (some (row 7 7 1 (pos 4) ++ row 7 1 1 (pos 5) ++ row 7 0 1 (minus 6) ++ row 6 0 1 (pos 0)))
+    ∷ run atFirst 0 4 (some (row 7 1 1 (pos 0) ++ row 7 2 1 (pos 0) ++ row 7 3 1 (pos 0) ++ row 6 0 1 (pos 0)))
+    ∷ run twoSpawns 0 7
     (some (row 1 0 1 (pos 2) ++ row 1 0 1 (pos 3) ++ row 6 0 1 (pos 0) ++ row 2 0 2 (pos 0) ++ row 6 0 2 (pos 0) ++ row 2 0 3 (pos 0) ++ row 6 0 3 (pos 0)))
     ∷ run setLater 0 7
     (some (row 1 0 1 (pos 2) ++ row 4 0 1 (pos 0) ++ row 2 0 2 (pos 0) ++ row 6 0 2 (pos 0) ++ row 2 0 1 (pos 0) ++ row 6 0 1 (pos 0)))
-    ∷ refused [] 11 0
+    ∷ run spawnOwn 0 7
+    (some (row 1 0 1 (pos 2) ++ row 7 0 1 (pos 2) ++ row 6 0 1 (pos 0) ++ row 2 0 2 (pos 0) ++ row 7 1 2 (pos 9) ++ row 6 0 2 (pos 0)))
+    ∷ run waitForMain 0 7
+    (some (row 1 0 1 (pos 2) ++ row 6 0 1 (pos 0) ++ row 2 0 2 (pos 0) ++ row 4 0 2 (pos 1) ++ row 2 0 2 (pos 0) ++ row 6 0 2 (pos 0)))
+    ∷ run (waitFor (minus 1)) 2 2 (some (row 4 0 1 (minus 1)))
+    ∷ run (waitFor (pos 2)) 2 2 (some (row 4 0 1 (pos 2)))
+    ∷ run waitTried 0 6
+    (some (row 1 0 1 (pos 2) ++ row 3 0 1 (pos 0) ++ row 2 0 2 (pos 0) ++ row 6 0 2 (pos 0) ++ row 2 0 1 (pos 0) ++ row 6 0 1 (pos 0)))
+    ∷ run waitDone 0 9
+    (some (row 1 0 1 (pos 2) ++ row 3 0 1 (pos 0) ++ row 2 0 2 (pos 0) ++ row 6 0 2 (pos 0) ++ row 2 0 1 (pos 0) ++ row 4 0 1 (pos 2) ++ row 2 0 1 (pos 0) ++ row 6 0 1 (pos 0)))
+    ∷ run turnLater 2 8
+    (some (row 1 0 1 (pos 2) ++ row 4 0 1 (pos 0) ++ row 2 0 2 (pos 0) ++ row 3 0 2 (pos 0) ++ row 5 0 1 (pos 7) ++ row 2 0 2 (pos 0) ++ row 6 0 2 (pos 0)))
+    ∷ run loop 0 13 (some (row 7 0 1 (pos 2) ++ row 7 1 1 (pos 1) ++ row 7 0 1 (pos 1) ++ row 7 2 1 (pos 9) ++ row 6 0 1 (pos 0)))
+    ∷ run (noBody 4 (pos 1)) 0 3 (some (row 7 0 1 (pos 5) ++ row 6 0 1 (pos 0)))
+    ∷ run (noBody 4 (pos 0)) 0 3 (some (row 7 0 1 (pos 5) ++ row 6 0 1 (pos 0)))
+    ∷ run (noBody 5 (pos 0)) 0 3 (some (row 7 0 1 (pos 5) ++ row 6 0 1 (pos 0)))
+    ∷ within 5 800 (noBody 5 (minus 1)) 1 5
+    ∷ []
+
+-- ---- tables at fault
+
+-- so many negations, one in the other, around what follows
+abbrev pub nested : ℕ → List ℕ → List ℕ
+nested zero l = l
+nested (suc n) l = row 12 0 (suc n) (pos 0) ++ nested n l
+
+-- valve 0 is set to a constant under so many negations, which stands at depth n + 2
+abbrev pub deep : ℕ → List ℕ → List ℕ
+deep n l = row 1 0 (n + 2) (pos 0) ++ row 3 0 (n + 1) (pos 0) ++ nested n l
+
+-- so many ifs, one in the other: the test of the innermost stands at depth n + 1
+abbrev pub ifs : ℕ → List ℕ
+ifs zero = []
+ifs (suc n) = row 4 0 (2 * n + 1) (pos 0) ++ row 9 0 0 (pos 1) ++ ifs n
+
+abbrev pub faults : List Row
+faults =
+    refused [] 11 0
     ∷ refused (0 ∷ rowE) 11 0
     ∷ refused (row 9 0 5 (pos 0)) 12 0
     ∷ refused (row 1 1 3 (pos 1)) 13 0
     ∷ refused (row 1 0 2 (pos 0) ++ row 3 65 1 (pos 1) ++ row 9 1 0 (pos 0)) 14 1
+    ∷ refused (row 1 0 2 (pos 0) ++ row 6 7 1 (pos 0) ++ row 9 0 0 (pos 0)) 14 1
     ∷ refused (row 1 0 2 (pos 0) ++ row 6 8 1 (pos 256) ++ row 9 0 0 (pos 0)) 15 1
+    ∷ refused (row 1 0 2 (pos 0) ++ row 6 8 1 (minus 1) ++ row 9 0 0 (pos 0)) 15 1
+    -- a later statement, a later procedure, a body behind its test, a second operand
+    ∷ refused (row 1 0 3 (pos 0) ++ row 3 0 1 (pos 0) ++ row 9 0 0 (pos 0) ++ row 9 0 0 (pos 0)) 12 3
+    ∷ refused (row 1 0 0 (pos 0) ++ row 1 0 1 (pos 0) ++ row 9 0 0 (pos 0)) 12 2
+    ∷ refused (row 1 0 3 (pos 0) ++ row 4 0 2 (pos 0) ++ row 9 0 0 (pos 0) ++ row 9 0 0 (pos 0)) 12 3
+    ∷ refused (row 1 0 4 (pos 0) ++ row 3 0 3 (pos 0) ++ row 11 0 2 (pos 0) ++ row 9 0 0 (pos 0) ++ row 2 0 0 (pos 0)) 12 4
+    -- a first operand that leaves none for the second, a kind 11 of span 1, a last operand that stops short
+    ∷ refused (row 1 0 4 (pos 0) ++ row 3 0 3 (pos 0) ++ row 11 0 2 (pos 0) ++ row 12 0 1 (pos 0) ++ row 9 0 0 (pos 0)) 13 3
+    ∷ refused (row 1 0 3 (pos 0) ++ row 3 0 2 (pos 0) ++ row 11 0 1 (pos 0) ++ row 9 0 0 (pos 0)) 13 2
+    ∷ refused (row 1 0 3 (pos 0) ++ row 3 0 2 (pos 0) ++ row 9 0 0 (pos 0) ++ row 9 0 0 (pos 0)) 13 2
+    -- depth 16 passes, 17 gives 16, and a bad name, span or value there comes first
+    ∷ run (deep 14 (row 9 0 0 (pos 3))) 0 2 (some (row 7 0 1 (pos 3) ++ row 6 0 1 (pos 0)))
+    ∷ refused (deep 15 (row 9 0 0 (pos 3))) 16 17
+    ∷ refused (deep 15 (row 9 1 0 (pos 3))) 14 17
+    ∷ refused (deep 15 (row 9 0 1 (pos 3))) 13 17
+    ∷ refused (deep 15 (row 10 0 0 (pos 3))) 15 17
+    ∷ refused (deep 15 (row 2 0 0 (pos 0))) 12 17
+    ∷ run (row 1 0 30 (pos 0) ++ ifs 15) 0 16 none
+    ∷ refused (row 1 0 32 (pos 0) ++ ifs 16) 16 32
+    -- 17 at the earliest spawn, and only when all records pass
     ∷ refused (row 1 0 2 (pos 0) ++ row 6 8 1 (pos 1) ++ row 9 0 0 (pos 0)) 17 1
+    ∷ refused (row 1 0 4 (pos 0) ++ row 6 8 1 (pos 1) ++ row 9 0 0 (pos 0) ++ row 6 8 1 (pos 2) ++ row 9 0 0 (pos 0)) 17 1
+    ∷ refused (row 1 0 4 (pos 0) ++ row 6 8 1 (pos 0) ++ row 9 0 0 (pos 0) ++ row 6 8 1 (pos 2) ++ row 9 0 0 (pos 0)) 17 3
+    ∷ refused (row 1 0 4 (pos 0) ++ row 6 8 1 (pos 1) ++ row 9 0 0 (pos 0) ++ row 3 65 1 (pos 0) ++ row 9 0 0 (pos 0)) 14 3
+    ∷ []
+
+-- a procedure of these statements; a set of valve 0 to this expression, whose first record has index 2
+abbrev pub procedureOf : List ℕ → List ℕ
+procedureOf l = row 1 0 (length l / 8) (pos 0) ++ l
+
+abbrev pub setTo : List ℕ → List ℕ
+setTo l = procedureOf (row 3 0 (length l / 8) (pos 0) ++ l)
+
+abbrev pub zero9 : List ℕ
+zero9 = row 9 0 0 (pos 0)
+
+-- each of the tables is refused with this number and place
+abbrev pub each : ℕ → ℕ → List (List ℕ) → List Row
+each n i [] = []
+each n i (t ∷ ts) = refused t n i ∷ each n i ts
+
+-- the table of kinds: each kind's name one past its row, its value not 0 where unused, its span where it has none and where it needs one
+abbrev pub columns : List Row
+columns =
+    each 14 0 (row 1 1 0 (pos 0) ∷ [])
+    ++ each 14 1
+    (procedureOf (row 2 1 0 (pos 0)) ∷ procedureOf (row 3 65 1 (pos 0) ++ zero9) ∷ procedureOf (row 4 1 1 (pos 0) ++ zero9) ∷ procedureOf (row 5 1 1 (pos 0) ++ zero9)
+    ∷ procedureOf (row 6 65 1 (pos 0) ++ zero9) ∷ procedureOf (row 7 1 0 (pos 0)) ∷ procedureOf (row 8 65 0 (pos 0)) ∷ [])
+    ++ each 14 2 (setTo (row 9 1 0 (pos 0)) ∷ setTo (row 10 65 0 (pos 0)) ∷ setTo (row 11 8 2 (pos 0) ++ zero9 ++ zero9) ∷ setTo (row 12 2 1 (pos 0) ++ zero9) ∷ [])
+    ++ each 15 0 (row 1 0 0 (pos 1) ∷ [])
+    ++ each 15 1
+    (procedureOf (row 2 0 0 (pos 1)) ∷ procedureOf (row 3 0 1 (minus 1) ++ zero9) ∷ procedureOf (row 4 0 1 (pos 1) ++ zero9) ∷ procedureOf (row 5 0 1 (pos 1) ++ zero9)
+    ∷ procedureOf (row 7 0 0 (pos 1)) ∷ procedureOf (row 8 0 0 lowest) ∷ [])
+    ++ each 15 2 (setTo (row 10 0 0 (pos 1)) ∷ setTo (row 11 0 2 (pos 1) ++ zero9 ++ zero9) ∷ setTo (row 12 0 1 (pos 1) ++ zero9) ∷ [])
+    ++ each 13 1
+    (procedureOf (row 2 0 1 (pos 0) ++ zero9) ∷ procedureOf (row 7 0 1 (pos 0) ++ zero9) ∷ procedureOf (row 8 0 1 (pos 0) ++ zero9) ∷ procedureOf (row 3 0 0 (pos 0))
+    ∷ procedureOf (row 4 0 0 (pos 0)) ∷ procedureOf (row 5 0 0 (pos 0)) ∷ procedureOf (row 6 8 0 (pos 0)) ∷ procedureOf (row 3 0 2 (pos 0) ++ zero9) ∷ [])
+    ++ each 13 2
+    (setTo (row 9 0 1 (pos 0) ++ zero9) ∷ setTo (row 10 0 1 (pos 0) ++ zero9) ∷ setTo (row 11 0 0 (pos 0)) ∷ setTo (row 12 0 0 (pos 0)) ∷ setTo (row 12 0 2 (pos 0) ++ zero9) ∷ [])
+    ++ each 12 1 (procedureOf (row 0 0 0 (pos 0)) ∷ procedureOf (row 1 0 0 (pos 0)) ∷ procedureOf (row 13 0 0 (pos 0)) ∷ [])
+    ++ each 12 2 (setTo (row 8 0 0 (pos 0)) ∷ setTo (row 13 0 0 (pos 0)) ∷ [])
+    ++ each 17 1 (procedureOf (row 6 8 1 (pos 255) ++ zero9) ∷ [])
+    -- the last name of a wait; a skip and a suspend as the first place
+    ++ run (procedureOf (row 8 64 0 (pos 0))) 2 1 (some (row 4 0 1 (pos 0)))
+    ∷ run (procedureOf (row 2 0 0 (pos 0))) 0 2 (some (row 6 0 1 (pos 0)))
+    ∷ run (procedureOf (row 7 0 0 (pos 0))) 0 3 (some (row 3 0 1 (pos 0) ++ row 2 0 1 (pos 0) ++ row 6 0 1 (pos 0)))
+    ∷ []
+
+-- ---- lent blocks
+
+-- a task's record: number, place, parameter
+abbrev pub task : (number place : ℕ) → ℤ → List ℕ
+task n k z = bytes2 n ++ bytes2 k ++ bytes4 (bits z)
+
+-- a block with the rest of its bytes 0
+abbrev pub blockOf : (issued live active : ℕ) → List ℕ → List ℕ
+blockOf i n a ts = bytes2 i ++ n ∷ a ∷ 0 ∷ 0 ∷ 0 ∷ 0 ∷ ts ++ replicate (512 - length ts) 0
+
+-- a block with two live tasks, and with variables
+abbrev pub variables : List ℤ → List ℕ
+variables [] = []
+variables (z ∷ zs) = bytes4 (bits z) ++ variables zs
+
+abbrev pub blockWith : (issued active : ℕ) → (first second : List ℕ) → List ℤ → List ℕ
+blockWith i a t u zs = bytes2 i ++ 2 ∷ a ∷ 0 ∷ 0 ∷ 0 ∷ 0 ∷ (t ++ u ++ replicate 240 0 ++ variables zs)
+
+-- valves 1 and 2 are set to the parameter and to variable 63
+abbrev pub readBack : List ℕ
+readBack = row 1 0 4 (pos 0) ++ row 3 1 1 (pos 0) ++ row 10 64 0 (pos 0) ++ row 3 2 1 (pos 0) ++ row 10 63 0 (pos 0)
+
+abbrev pub before : List ℤ
+before = pos 258 ∷ pos 0 ∷ pos 0 ∷ replicate 60 (pos 3) ++ minus 2 ∷ []
+
+abbrev pub behind : List ℤ
+behind = pos 258 ∷ minus 9 ∷ minus 2 ∷ replicate 60 (pos 3) ++ minus 2 ∷ []
+
+-- the tasks 1 to n, all at place 1
+abbrev pub crowd : ℕ → List ℕ
+crowd zero = []
+crowd (suc n) = crowd n ++ task (suc n) 1 (pos 0)
+
+-- main spawns procedure 1, which is empty
+abbrev pub spawnOne : List ℕ
+spawnOne = row 1 0 2 (pos 0) ++ row 6 8 1 (pos 1) ++ row 9 0 0 (pos 0) ++ row 1 0 0 (pos 0)
+
+abbrev pub blocks : List Row
+blocks =
+    -- 21 and 22, the earliest state record: its head; a number that is 0, not issued or had by an earlier record; a place that is none; an unused record
+    from (take 519 (blockOf 1 0 0 [])) (refused rowE 21 0)
+    ∷ from (blockOf 1 0 0 [] ++ 0 ∷ []) (refused rowE 21 0)
+    ∷ from (blockOf 0 0 0 []) (refused rowE 22 0)
+    ∷ from (blockOf 40 33 0 (crowd 32)) (refused rowE 22 0)
+    ∷ from (blockOf 1 1 2 (task 1 1 (pos 0))) (refused rowE 22 0)
+    ∷ from (blockOf 1 0 1 []) (refused rowE 22 0)
+    ∷ from (1 ∷ 0 ∷ 0 ∷ 0 ∷ 0 ∷ 0 ∷ 0 ∷ 1 ∷ replicate 512 0) (refused rowE 22 0)
+    ∷ from (blockOf 9 4 1 (crowd 1 ++ task 0 1 (pos 0) ++ task 3 0 (pos 0) ++ task 1 1 (pos 0))) (refused rowE 22 2)
+    ∷ from (blockOf 9 4 0 (crowd 1 ++ task 10 1 (pos 0) ++ task 3 0 (pos 0) ++ task 1 1 (pos 0))) (refused rowE 22 2)
+    ∷ from (blockOf 9 4 0 (crowd 2 ++ task 1 1 (pos 0) ++ task 4 0 (pos 0))) (refused rowE 22 3)
+    ∷ from (blockOf 9 3 0 (crowd 2 ++ task 3 0 (pos 0))) (refused rowE 22 3)
+    ∷ from (blockOf 9 3 0 (crowd 2 ++ task 3 3 (pos 0))) (refused rowC 22 3)
+    ∷ from (blockOf 9 2 0 (crowd 1 ++ task 2 2 (pos 0))) (refused rowD 22 2)
+    ∷ from (blockOf 9 2 0 (crowd 1 ++ task 1 1 (pos 0))) (refused rowE 22 2)
+    ∷ from (blockOf 9 2 0 (crowd 2 ++ task 0 0 (pos 0) ++ task 0 0 (pos 1))) (refused rowE 22 4)
+    ∷ from (blockOf 9 2 0 (crowd 2 ++ task 0 0 lowest)) (refused rowE 22 3)
+    ∷ from (blockOf 9 2 0 (crowd 2 ++ task 0 256 (pos 0))) (refused rowE 22 3)
+    ∷ from (blockOf 9 2 0 (crowd 2 ++ task 3 0 (pos 0))) (refused rowE 22 3)
+    ∷ from (blockOf 32 31 0 (crowd 31 ++ task 0 0 (pos 1))) (refused rowE 22 32)
+    -- "Table first"
+    ∷ from (blockOf 0 0 0 []) (refused (row 9 0 5 (pos 0)) 12 0)
+    ∷ from [] (refused (row 9 0 5 (pos 0)) 12 0)
+    -- every field of a block, read and written: two steps of the active task; a front taken up; a front turned; a task spawned; one that ends
+    ∷ from (blockWith 300 1 (task 3 1 (minus 9)) (task 270 5 (pos 4)) before)
+    (logs (row 7 1 3 (minus 9) ++ row 7 2 3 (minus 2)) (leaves (blockWith 300 1 (task 3 5 (minus 9)) (task 270 5 (pos 4)) behind) (within 2 800 readBack 1 2)))
+    ∷ from (blockWith 300 0 (task 270 1 (minus 9)) (task 3 5 (pos 4)) before)
+    (logs (row 2 0 270 (pos 0)) (leaves (blockWith 300 1 (task 270 1 (minus 9)) (task 3 5 (pos 4)) before) (within 1 800 readBack 1 1)))
+    ∷ from (blockWith 300 0 (task 270 1 (minus 9)) (task 3 2 (pos 4)) before)
+    (logs (row 5 0 270 (pos 3)) (leaves (blockWith 300 0 (task 3 2 (pos 4)) (task 270 1 (minus 9)) before) (within 1 800 rowC 1 1)))
+    ∷ from (blockOf 300 1 1 (task 3 1 (minus 9)))
+    (leaves (blockWith 301 1 (task 3 3 (minus 9)) (task 301 4 (pos 0)) (replicate 8 (pos 0) ++ pos 301 ∷ replicate 55 (pos 0))) (within 1 800 spawnOne 1 1))
+    ∷ from (blockWith 300 1 (task 3 5 (minus 9)) (task 270 1 (pos 4)) before)
+    (logs (row 6 0 3 (pos 0)) (leaves (bytes2 300 ++ 1 ∷ 0 ∷ 0 ∷ 0 ∷ 0 ∷ 0 ∷ (task 270 1 (pos 4) ++ replicate 248 0 ++ variables before)) (within 1 800 readBack 1 1)))
+    -- at a spawn: 31 and 32 live, 65,534 and 65,535 issued, both limits, no budget, no room
+    ∷ from (blockOf 31 31 1 (crowd 31)) (within 1 8 spawnOne 1 1)
+    ∷ from (blockOf 32 32 1 (crowd 32)) (within 1 8 spawnOne 3 0)
+    ∷ from (blockOf 65534 1 1 (crowd 1)) (within 1 8 spawnOne 1 1)
+    ∷ from (blockOf 65535 1 1 (crowd 1)) (within 1 8 spawnOne 4 0)
+    ∷ from (blockOf 65535 32 1 (crowd 32)) (within 1 8 spawnOne 3 0)
+    ∷ from (blockOf 65535 32 1 (crowd 32)) (within 0 8 spawnOne 1 0)
+    ∷ from (blockOf 65535 1 1 (crowd 1)) (within 1 0 spawnOne 4 0)
+    -- a finished and a stuck state without budget; room for one record, and for two
+    ∷ from (blockOf 1 0 0 []) (within 0 0 rowE 0 0)
+    ∷ from (blockOf 1 1 0 (crowd 1)) (within 0 0 rowC 2 0)
+    ∷ from (blockOf 1 1 0 (crowd 1)) (within 0 0 rowE 1 0)
+    ∷ within 1000 15 twoSpawns 5 1
+    ∷ within 1000 16 twoSpawns 5 2
+    ∷ within 1 15 twoSpawns 1 1
+    ∷ []
+
+abbrev pub rows : List Row
+rows = starred ++ operators ++ readings ++ faults ++ columns ++ blocks
+
+-- ---- start
+
+-- a table and a block, the number and the place, and the block left
+pub record StartRow : Type 0 where
+  pub table : List ℕ
+  pub block : List ℕ
+  pub number : ℕ
+  pub place : ℕ
+  pub left : List ℕ
+
+abbrev pub starts : List ℕ → List ℕ → ℕ → ℕ → List ℕ → StartRow
+starts t b n i c = record { table = t; block = b; number = n; place = i; left = c }
+
+-- the table comes before the block, whose length alone counts
+abbrev pub startRows : List StartRow
+startRows =
+    starts rowA (replicate 520 255) 0 0 (blockOf 1 1 1 (task 1 1 (pos 0)))
+    ∷ starts rowA (replicate 519 7) 21 0 (replicate 519 7)
+    ∷ starts (row 1 0 1 (pos 0) ++ row 9 0 0 (pos 0)) (replicate 519 7) 12 1 (replicate 519 7)
+    ∷ starts (row 1 0 1 (pos 0) ++ row 9 0 0 (pos 0)) (replicate 520 7) 12 1 (replicate 520 7)
+    ∷ starts [] [] 11 0 []
     ∷ []
 
 abbrev pub same : List ℕ → List ℕ → Bool
@@ -112,17 +451,28 @@ same [] (b ∷ m) = false
 same (a ∷ l) [] = false
 same (a ∷ l) (b ∷ m) = eqb a b && same l m
 
-abbrev pub sameLog : Option (List ℕ) → Outcome → Bool
-sameLog none o = true
-sameLog (some l) o = same l (take (8 * o .records) (o .log))
+abbrev pub sameAs : Option (List ℕ) → List ℕ → Bool
+sameAs none l = true
+sameAs (some m) l = same m l
 
 -- "Rows run from a fresh state": the one that start writes, whatever the block held
+abbrev pub blockFor : Option (List ℕ) → List ℕ → List ℕ
+blockFor none t = startOn t (replicate 520 255) .block
+blockFor (some b) t = b
+
 unfoldable pub outcomeOf : Row → Outcome
-outcomeOf x = runOn (x .table) (startOn (x .table) (replicate 520 255) .block) (x .budget) (replicate (8 * x .room) 0)
+outcomeOf x = runOn (x .table) (blockFor (x .block) (x .table)) (x .budget) (replicate (x .room) 0)
 
 abbrev pub passes : Row → Outcome → Bool
-passes x o = eqb (o .number) (x .number) && eqb (o .steps) (x .steps) && eqb (o .place) (x .place) && sameLog (x .log) o
+passes x o = eqb (o .number) (x .number) && eqb (o .steps) (x .steps) && eqb (o .place) (x .place) && sameAs (x .log) (take (8 * o .records) (o .log)) && sameAs (x .left) (o .block)
 
 unfoldable pub allPass : List Row → Bool
 allPass [] = true
 allPass (x ∷ xs) = passes x (outcomeOf x) && allPass xs
+
+abbrev pub startPasses : StartRow → Started → Bool
+startPasses x o = eqb (o .number) (x .number) && eqb (o .place) (x .place) && same (x .left) (o .block)
+
+unfoldable pub allStart : List StartRow → Bool
+allStart [] = true
+allStart (x ∷ xs) = startPasses x (startOn (x .table) (x .block)) && allStart xs

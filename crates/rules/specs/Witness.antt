@@ -4,33 +4,30 @@ use Prim.Native.Nat.{ℕ, _+_, _*_}
 use mathlib.Core.Path.{_≡_}
 use mathlib.Core.List.{List, [], _∷_, _++_, map}
 use lib.IntN.{pos}
-use lib.ListN.{length, drop, replicate}
+use lib.ListN.{length, take, drop}
 use Rattle.rules.specs.Recipe.{row}
 use Rattle.rules.specs.Table.{recipeOf}
 use Rattle.rules.specs.State.{Task, fresh}
-use Rattle.rules.specs.Scheduler.{Rules}
+use Rattle.rules.specs.Scheduler.{Rules, paused}
 use Rattle.rules.specs.Steps.{recipes}
-use Rattle.rules.specs.Moments.{Moment, trace}
-use Rattle.rules.specs.Fairness.{steps, until, Waiting, TakenWithin}
-use Rattle.rules.specs.Demand.{Given, callOf}
+use Rattle.rules.specs.Moments.{Call, call, budgets, Moment, trace}
+use Rattle.rules.specs.Fairness.{steps, records, endings, until, longest, Waiting, TakenWithin}
+use Rattle.rules.specs.Demand.{givenOut, times}
 
 abbrev pub table : List ℕ
 table =
     row 1 0 5 (pos 0) ++ row 6 8 1 (pos 1) ++ row 9 0 0 (pos 0) ++ row 6 9 1 (pos 1) ++ row 9 0 0 (pos 0) ++ row 7 0 0 (pos 0)
     ++ row 1 0 3 (pos 0) ++ row 5 0 2 (pos 0) ++ row 9 0 0 (pos 1) ++ row 7 0 0 (pos 0)
 
-abbrev pub given : ℕ → Given
-given n = record { budget = n; buffer = replicate 800 0 }
-
 -- the first call ends where the main task has given way; the pause and a call without budget fall into its wait
-abbrev pub calls : List Given
-calls = given 3 ∷ given 3 ∷ given 0 ∷ given 20 ∷ []
+abbrev pub calls : List Call
+calls = call 3 100 ∷ call 3 100 ∷ call 0 100 ∷ call 20 100 ∷ []
 
 abbrev pub rules : Rules
 rules = recipes (recipeOf table)
 
 unfoldable pub moments : List (Moment rules)
-moments = trace rules fresh (map callOf calls)
+moments = trace rules fresh calls
 
 -- the moments from the second call on
 abbrev pub waiting : List (Moment rules)
@@ -45,6 +42,16 @@ ahead = at 2 7 ∷ at 3 7 ∷ []
 -- where the main task waits: at the end of its procedure
 abbrev pub main : Task ℕ
 main = at 1 6
+
+-- What the moments of these calls count to.
+pub record Counts : Type 0 where
+  -- "Budgets count from the moment on: what its call then has left and those of later calls": 26 in all, one less with each step, none where a call ends
+  pub left : map (λ m. budgets (m .calls)) (take 12 moments) ≡ 26 ∷ 25 ∷ 24 ∷ 23 ∷ 23 ∷ 22 ∷ 21 ∷ 20 ∷ 20 ∷ 20 ∷ 19 ∷ 18 ∷ []
+  -- a burst of the tasks ahead is a test and a suspend
+  pub bursts : longest rules 0 (until rules 1 waiting) ≡ 2
+  pub given-out : givenOut (records rules moments) ≡ 2 ∷ 3 ∷ []
+  pub often : times 2 (2 ∷ 3 ∷ 2 ∷ []) ≡ 2
+  pub ended : endings rules moments ≡ paused ∷ paused ∷ paused ∷ paused ∷ []
 
 -- It waits as the bound asks, with bursts of at most 2 steps, and is taken up at step 2 * (2 + 1) + 1 exactly.
 pub record Tight : Type 0 where

@@ -54,13 +54,13 @@ noted-next events given log w x b l e =
     (ap (λ (p : List ℕ). p ++ eventRow x ++ drop (w + 8) given) (ap (λ (p : List ℕ). take w p) e ∙ take-at (logBytes events) (drop w given) w n))
 
 -- of a step, by whether it has an event
-logged-length : (r : Recipe) (x : Option Event) (events : List Event) → length (events ++ logOf (recipes r) x) ≡ length events + size (recipes r) x
+logged-length : (r : Recipe) (x : Option Event) (events : List Event) → length (events ++ logOf x) ≡ length events + size (recipes r) x
 logged-length r none events = rw (append-nil events) (omega arith)
 logged-length r (some x) events = length-append events (x ∷ [])
 
 logged-is : (r : Recipe) (x : Option Event) (events : List Event) (given log : List ℕ) (w : ℕ) → w ≡ 8 * length events
     → w + 8 * size (recipes r) x ≤ length log → log ≡ logBytes events ++ drop w given
-    → noted log w x ≡ logBytes (events ++ logOf (recipes r) x) ++ drop (w + 8 * size (recipes r) x) given
+    → noted log w x ≡ logBytes (events ++ logOf x) ++ drop (w + 8 * size (recipes r) x) given
 logged-is r none events given log w b l e = let z : w + 8 * 0 ≡ w = omega arith in rw (append-nil events, z) e
 logged-is r (some x) events given log w b l e = noted-next events given log w x b l e
 
@@ -88,9 +88,9 @@ module _ {r : Recipe} {u : Run (recipes r)} {budget : ℕ} {given : List ℕ} {n
       let b = a .bytes in
       let s : suc (budget - n′ .steps) ≡ budget - n .steps = omega arith in
       let now : At (recipes r) u (n .steps) (a .events) c (suc (budget - n′ .steps)) (roomOf given - length (a .events)) = rw s (a .at) in
-      let left : roomOf given - length (a .events) - size (recipes r) x ≡ roomOf given - length (a .events ++ logOf (recipes r) x) = omega arith in
+      let left : roomOf given - length (a .events) - size (recipes r) x ≡ roomOf given - length (a .events ++ logOf x) = omega arith in
       record {
-        events = a .events ++ logOf (recipes r) x;
+        events = a .events ++ logOf x;
         at = rw (← left) (rw (← p) at (at-step (recipes r) u (n .steps) (a .events) c c′ x (budget - n′ .steps) (roomOf given - length (a .events)) h m now));
         in-budget = omega arith;
         in-room = omega arith;

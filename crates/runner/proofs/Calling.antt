@@ -1,10 +1,10 @@
 -- What a call is by its verdict, what it answers by its end, and what follows of lists of calls.
 -- Assumes nothing.
 use mathlib.Core.Logic.{_⊎_}
-use Prim.Native.Nat.{ℕ, _+_, _/_, _≤_}
+use Prim.Native.Nat.{ℕ, _+_, _*_, _/_, _≤_}
 use mathlib.Core.Path.{_≡_, refl, sym, ap, _∙_, subst, subst⁻¹, subst₂}
 use mathlib.Core.Bool.{true}
-use mathlib.Core.Option.{none, some}
+use mathlib.Core.Option.{none, some, Option·map, Option·some-injective}
 use mathlib.Core.List.{List, [], _∷_, _++_, map}
 use native.Mathlib.Omega.{arith}
 use lib.Dec.{eqb}
@@ -14,21 +14,23 @@ use Rattle.rules.specs.Table.{fine, fault, _else_, check, recipeOf}
 use Rattle.rules.specs.Places.{isPlace}
 use Rattle.rules.specs.State.{fresh, headFits, recordFits, checkRecords, checkBlock, readBlock, writeBlock}
 use Rattle.rules.specs.Log.{logBytes}
-use Rattle.rules.specs.Scheduler.{Rules, Ending, numberOf, Run, end, step, run, ending, stepsOf, log}
+use Rattle.rules.specs.Scheduler.{Rules, numberOf, Run, end, step, run, stepsOf, log}
 use Rattle.rules.specs.Steps.{recipes}
 use Rattle.rules.specs.Run.{Outcome, startOn, roomOf, refusal, outcome, openOn, runOn}
 use Rattle.rules.specs.Demand.{Bytes, Chained, Continues}
 use Rattle.rules.proofs.Verdicts.{else-fine, cond-fine}
-use Rattle.rules.specs.Answers.{RunAnswers}
-use Rattle.rules.proofs.Answers.{run-answers}
+use Rattle.rules.specs.Answers.{RunAnswers, RunSays, StartAnswers, StartSays}
+use Rattle.rules.proofs.Answers.{run-answers, start-answers}
+use Rattle.rules.proofs.Says.{run-says, start-says}
 use Rattle.rules.proofs.Demand.{chain-meets, continued}
 use Rattle.state.specs.declared.State.{State}
 use Rattle.state.specs.View.{view}
 use Rattle.runner.specs.declared.Answer.{Answer}
+use Rattle.runner.specs.declared.Started.{Started}
 use Rattle.runner.specs.declared.drive.Ran.{Ran}
 use Rattle.runner.specs.Along.{endingOf}
 use Rattle.runner.specs.Drive.{Drives}
-use Rattle.runner.specs.Calls.{outcomeOf, Called, called, result, madeOf, Contract, Calls, MeetsDemand, ContinuesAsOne}
+use Rattle.runner.specs.Calls.{startedOf, outcomeOf, Called, called, result, madeOf, Contract, Calls, MeetsDemand, ContinuesAsOne}
 
 -- ---- start, by what is found
 
@@ -81,13 +83,13 @@ module _ {t : List ℕ} {s : State} {n : ℕ} {l l′ : List ℕ} {x : Ran} (d :
   pub records-fit : x .count .written / 8 ≤ x .count .steps
   records-fit = let b = d .ended .bytes in let k = d .ended .steps-are in omega (arith, log-steps (recipes (recipeOf t)) u)
 
-  pub answers : (number : ℕ) (block : List ℕ) → ((e : Ending) → endingOf (x .stop) ≡ some e → number ≡ numberOf e) → block ≡ writeBlock (view (x .state))
+  pub answers : (number : ℕ) (block : List ℕ) → some number ≡ Option·map numberOf (endingOf (x .stop)) → block ≡ writeBlock (view (x .state))
       → record { number = number; steps = x .count .steps; records = x .count .written / 8; place = 0; block = block; log = l′ }
       ≡ outcome (recipeOf t) (run (recipes (recipeOf t)) n (roomOf l) (view s)) l
   unfolding outcome
   answers number block f g =
       let e = d .ended in
-      let number-is = f (d .ending) (d .stop-is) ∙ ap numberOf (sym (e .ends-so)) in
+      let number-is = Option·some-injective _ _ (f ∙ ap (Option·map numberOf) (d .stop-is)) ∙ ap numberOf (sym (e .ends-so)) in
       let many : x .count .written / 8 ≡ length (log (recipes (recipeOf t)) u) = omega (arith, e .bytes) in
       let block-is = g ∙ ap writeBlock (sym (e .leaves)) in
       let log-is = e .log-is ∙ ap (λ (k : ℕ). logBytes (log (recipes (recipeOf t)) u) ++ drop k l) (e .bytes) in
@@ -96,8 +98,8 @@ module _ {t : List ℕ} {s : State} {n : ℕ} {l l′ : List ℕ} {x : Ran} (d :
 -- ---- lists of calls of run
 
 -- what "continued equals one run" says of two calls and of the one in their place
-abbrev Continued : (x y z : Outcome) → Type 0
-Continued x y z = (x .number ≡ 1) ⊎ (x .number ≡ 5) → ¬ (y .number ≡ 5) → ¬ (z .number ≡ 5) → Continues x y z
+abbrev Continued : (whole : List ℕ) → (x y z : Outcome) → Type 0
+Continued whole x y z = (x .number ≡ 1) ⊎ (x .number ≡ 5) → ¬ (y .number ≡ 5) → 8 * (x .records + y .records) ≤ length whole → Continues x y z
 
 chained : (t b : List ℕ) (cs : List Called) → Calls t b cs → Chained t b (map madeOf cs)
 chained t b [] h = tt
@@ -109,12 +111,25 @@ module _ (t b : List ℕ) (bytes-t : Bytes t) (bytes-b : Bytes b) (o : Called) (
 
   pub calls-continue : ContinuesAsOne t b o
   calls-continue p q hp n hq =
-      subst₂ (Continued (result o)) (sym hp) (sym (hq ∙ ap (λ (k : ℕ). runOn t b k (q .log)) n))
-      (subst (λ (x : Outcome). Continued x (runOn t (x .block) (p .budget) (p .log)) (runOn t b (x .steps + p .budget) (q .log))) (sym h)
+      subst₂ (Continued (q .log) (result o)) (sym hp) (sym (hq ∙ ap (λ (k : ℕ). runOn t b k (q .log)) n))
+      (subst (λ (x : Outcome). Continued (q .log) x (runOn t (x .block) (p .budget) (p .log)) (runOn t b (x .steps + p .budget) (q .log))) (sym h)
       (continued t b bytes-t bytes-b (o .budget) (p .budget) (o .log) (p .log) (q .log)))
 
 -- all that run promises follows from the equation
 pub promised : (t b : List ℕ) (n : ℕ) (l : List ℕ) → Bytes t → Bytes b → (r : Answer) (b′ l′ : List ℕ) → outcomeOf r b′ l′ ≡ runOn t b n l
-    → (outcomeOf r b′ l′ ≡ runOn t b n l) × (RunAnswers b l (outcomeOf r b′ l′) × (MeetsDemand t b (called n l r b′ l′) × ContinuesAsOne t b (called n l r b′ l′)))
-promised t b n l bt bb r b′ l′ is =
-    (is, (subst⁻¹ (RunAnswers b l) is (run-answers t b n l), (calls-meet t b bt bb (called n l r b′ l′) is, calls-continue t b bt bb (called n l r b′ l′) is)))
+    → (outcomeOf r b′ l′ ≡ runOn t b n l) × (RunAnswers b l (outcomeOf r b′ l′) × (RunSays t b n l (outcomeOf r b′ l′) × (MeetsDemand t b (called n l r b′ l′) × ContinuesAsOne t b (called n l r b′ l′))))
+promised t b n l bt bb r b′ l′ is = (
+  is,
+  (
+    subst⁻¹ (RunAnswers b l) is (run-answers t b n l),
+    (
+      subst⁻¹ (RunSays t b n l) is (run-says t b bt bb n l),
+      (calls-meet t b bt bb (called n l r b′ l′) is, calls-continue t b bt bb (called n l r b′ l′) is),
+    ),
+  ),
+)
+
+-- all that start promises
+pub start-promised : (t b : List ℕ) (r : Started) (b′ : List ℕ) → startedOf r b′ ≡ startOn t b
+    → (startedOf r b′ ≡ startOn t b) × (StartAnswers b (startedOf r b′) × StartSays t b (startedOf r b′))
+start-promised t b r b′ is = (is, (subst⁻¹ (StartAnswers b) is (start-answers t b), subst⁻¹ (StartSays t b) is (start-says t b)))

@@ -5,13 +5,14 @@ use mathlib.Core.Path.{_≡_, refl, sym, ap, _∙_, subst, subst⁻¹}
 use mathlib.Core.Bool.{true, false}
 use mathlib.Core.Option.{none}
 use mathlib.Core.List.{List}
+use native.Mathlib.Omega.{arith}
 use Rattle.rules.specs.Table.{fine, check, recipeOf}
 use Rattle.rules.specs.Places.{at, start}
 use Rattle.rules.specs.State as R
-use Rattle.rules.specs.Scheduler.{nextAct, next, run}
-use Rattle.rules.specs.Steps.{recipes}
+use Rattle.rules.specs.Scheduler.{nextAct, next}
+use Rattle.rules.specs.Steps.{recipes, goTo, pastAt}
 use Rattle.state.specs.declared.State.{State}
-use Rattle.state.specs.View.{taskOf, queueOf, view, Fine, takeUp, turn}
+use Rattle.state.specs.View.{taskOf, entry, queueOf, view, Fine, takeUp, turn}
 use Rattle.step.specs.declared.moves.Move.{Move}
 use Rattle.step.specs.Ready.{idle}
 use Rattle.step.specs.Linked.{Linked}
@@ -20,10 +21,11 @@ use Rattle.runner.specs.declared.count.Count.{Count}
 use Rattle.runner.specs.declared.count.Stop.{Stop}
 use Rattle.runner.specs.Along.{endingOf, isMore, Along, Ended, Told}
 use Rattle.runner.specs.Active.{leaves, busy, Active, stepOf, Leaving, Made}
-use Rattle.runner.specs.Idle.{Idling, Tries}
+use Rattle.runner.specs.Idle.{Idling, Taking, tookUp, Tries}
 use Rattle.runner.specs.Drive.{Driving, call, Drives}
 use Rattle.runner.proofs.Along.{along-start}
 use Rattle.runner.proofs.Acting.{queue-length}
+use Rattle.runner.proofs.Trying.{first, first-entry, placed-at}
 use Rattle.runner.proofs.Stops.{more-none, ends-of}
 
 -- the state as the code holds it, by whether a task is active
@@ -38,6 +40,15 @@ busy-view s h = rw h refl
 
 idle-view : (s : State) → s .active ≡ false → view s ≡ idleOf s
 idle-view s h = rw h refl
+
+-- the task that stands so many turns behind the front becomes active: past its await, if it stood at one
+took-up : (table : List ℕ) (s : State) (turns place : ℕ) → turns < s .queued
+    → ((t : R.Task ℕ) → t .place ≡ entry (s .queue) (s .front) turns .place → pastAt (at (recipeOf table) (t .place)) t ≡ goTo t place)
+    → takeUp (turn turns (view s) .queue) place (turn turns (view s)) ≡ tookUp (recipeOf table) (turn turns (view s) .queue) (turn turns (view s))
+took-up table s turns place i past =
+    let f = first (s .queue) (s .front) (s .queued) turns i in
+    let up = past (f .first) (ap (λ (t : R.Task ℕ). t .place) (first-entry (s .queue) (s .front) (s .queued) turns i)) in
+    rw (f .is, up) refl
 
 -- the call of the state s₀ with the log buffer log₀ has come to the state s
 pub record Driven (table : List ℕ) (s₀ : State) (budget : ℕ) (log₀ : List ℕ) (s : State) (n : Count) (log : List ℕ) : Type 0 where
@@ -55,10 +66,10 @@ pub record Came (table : List ℕ) (s₀ : State) (budget : ℕ) (log₀ : List 
   pub fine-state : Fine s
 
 -- what the tries came to, with the state s before them
-pub record Tried (table : List ℕ) (s₀ : State) (budget : ℕ) (log₀ : List ℕ) (n : Count) (s : State) (stop : Stop) (n′ : Count) (log′ : List ℕ) (turns place : ℕ) : Type 0 where
+pub record Tried (table : List ℕ) (s₀ : State) (budget : ℕ) (log₀ : List ℕ) (n : Count) (s : State) (stop : Stop) (n′ : Count) (log′ : List ℕ) (turns : ℕ) : Type 0 where
   pub tries : Tries (recipeOf table) (call table s₀ budget log₀) budget log₀ n′ log′
-      (turn turns (idleOf s)) place (endingOf stop)
-  pub further : endingOf stop ≡ none → n .steps < n′ .steps
+      (turn turns (idleOf s)) (endingOf stop)
+  pub further : endingOf stop ≡ none → (turns < s .queued) × (n .steps < n′ .steps)
   pub off : s .active ≡ false
 
 module _ {table : List ℕ} {s₀ : State} {budget : ℕ} {log₀ : List ℕ} where
@@ -84,14 +95,16 @@ module _ {table : List ℕ} {s₀ : State} {budget : ℕ} {log₀ : List ℕ} wh
       reached = record { call = call table s₀ budget log₀; given = log₀; along = along-busy h };
     }
 
-    pub to-try : (next starts : List ℕ) → check table ≡ fine → Linked (recipeOf table) next starts → s .active ≡ false
-        → Idling table next (s .queue) (s .variables) (s .front) (s .queued) (s .issued) budget log n
-    to-try next starts e l h = record {
+    pub to-try : check table ≡ fine → s .active ≡ false → Idling table (s .queue) (s .variables) (s .front) (s .queued) (s .issued) budget log n
+    to-try e h = record {
       accepted = e;
-      leads = l .next-is;
       front-fits = d .fine-state .front-fits;
       reached = record { call = call table s₀ budget log₀; given = log₀; along = along-idle h };
     }
+
+    pub to-take : (next starts : List ℕ) (turns : ℕ) → check table ≡ fine → Linked (recipeOf table) next starts → s .active ≡ false → turns < s .queued → Taking table next (s .queue) (s .front) turns
+    to-take next starts turns e l h i =
+        record { accepted = e; leads = l .next-is; front-fits = d .fine-state .front-fits; few = omega (arith, d .fine-state .few); placed = placed-at (to-try e h) turns i }
 
   module _ {n : Count} {s : State} {stop : Stop} {n′ : Count} {log′ : List ℕ} {m : Move} (c : Came table s₀ budget log₀ n s stop n′ log′ m) where
     pub came-ends : isMore stop ≡ false → Drives table s₀ budget log₀ log′ (record { stop = stop; count = n′; state = s })
@@ -136,7 +149,7 @@ module _ {table : List ℕ} {s₀ : State} {budget : ℕ} {log₀ : List ℕ} wh
       pub came-further : n .steps < n′ .steps
       came-further = c .further (more-none stop h)
 
-  module _ {n : Count} {s : State} {stop : Stop} {n′ : Count} {log′ : List ℕ} {turns place : ℕ} (c : Tried table s₀ budget log₀ n s stop n′ log′ turns place) where
+  module _ {n : Count} {s : State} {stop : Stop} {n′ : Count} {log′ : List ℕ} {turns : ℕ} (c : Tried table s₀ budget log₀ n s stop n′ log′ turns) where
     abbrev after : R.State
     after = turn turns (idleOf s)
 
@@ -150,18 +163,23 @@ module _ {table : List ℕ} {s₀ : State} {budget : ℕ} {log₀ : List ℕ} wh
         record {
           ending = e;
           stop-is = g;
-          ended = subst⁻¹ (λ (d : R.State). Ended (recipeOf table) (call table s₀ budget log₀) log₀ n′ log′ d e) (v ∙ after-is) (subst (Tries (recipeOf table) (call table s₀ budget log₀) budget log₀ n′ log′ after place) g (c .tries));
+          ended = subst⁻¹ (λ (d : R.State). Ended (recipeOf table) (call table s₀ budget log₀) log₀ n′ log′ d e) (v ∙ after-is) (subst (Tries (recipeOf table) (call table s₀ budget log₀) budget log₀ n′ log′ after) g (c .tries));
           fine-state = f;
         }
 
     module _ (h : isMore stop ≡ true) where
-      pub tried-on : (s′ : State) → view s′ ≡ takeUp (turn turns (view s) .queue) place (turn turns (view s)) → Fine s′ → Driven table s₀ budget log₀ s′ n′ log′
-      tried-on s′ v f =
-          let a = subst (Tries (recipeOf table) (call table s₀ budget log₀) budget log₀ n′ log′ after place) (more-none stop h) (c .tries) in
-          record {
-            along = subst⁻¹ (Along (recipeOf table) (call table s₀ budget log₀) budget log₀ n′ log′) (v ∙ ap (λ (d : R.State). takeUp (d .queue) place d) after-is) a;
-            fine-state = f;
-          }
+      pub tried-inside : turns < s .queued
+      tried-inside = c .further (more-none stop h) .0
 
       pub tried-further : n .steps < n′ .steps
-      tried-further = c .further (more-none stop h)
+      tried-further = c .further (more-none stop h) .1
+
+      pub tried-on : (place : ℕ)
+          → ((t : R.Task ℕ) → t .place ≡ entry (s .queue) (s .front) turns .place → pastAt (at (recipeOf table) (t .place)) t ≡ goTo t place)
+          → (s′ : State) → view s′ ≡ takeUp (turn turns (view s) .queue) place (turn turns (view s)) → Fine s′ → Driven table s₀ budget log₀ s′ n′ log′
+      tried-on place past s′ v f =
+          let a = subst (Tries (recipeOf table) (call table s₀ budget log₀) budget log₀ n′ log′ after) (more-none stop h) (c .tries) in
+          record {
+            along = subst⁻¹ (Along (recipeOf table) (call table s₀ budget log₀) budget log₀ n′ log′) (v ∙ took-up table s turns place tried-inside past ∙ ap (λ (d : R.State). tookUp (recipeOf table) (d .queue) d) after-is) a;
+            fine-state = f;
+          }

@@ -2,7 +2,7 @@
 -- Assumes nothing.
 use Prim.Native.Nat.{ℕ, zero, suc, _+_, _-_, _*_, _/_, _≤_, _<_}
 use mathlib.Core.Path.{_≡_, refl, sym, ap, ap₂, _∙_, subst, subst⁻¹}
-use mathlib.Core.Bool.{true, false, cond, true≢false}
+use mathlib.Core.Bool.{false, cond, true≢false}
 use mathlib.Core.Option.{Option, none, some}
 use mathlib.Core.List.{List}
 use mathlib.Core.Logic.{_⊎_, inl, inr, ⊎-elim, dite}
@@ -19,11 +19,11 @@ use Rattle.rules.specs.Places.{at}
 use Rattle.rules.specs.State as R
 use Rattle.rules.specs.Log as L
 use Rattle.rules.specs.Log.{eventRow}
-use Rattle.rules.specs.Scheduler.{Readiness, ready, waits-for, isReady, canGo, goes, next, Ending, finished, paused, stuck, logfull, stops, test, Run}
-use Rattle.rules.specs.Steps.{recipes, goTo, pastAt}
+use Rattle.rules.specs.Scheduler.{Readiness, waits-for, isReady, canGo, goes, next, Ending, finished, paused, stuck, logfull, stops, test, Run}
+use Rattle.rules.specs.Steps.{recipes, pastAt}
 use Rattle.rules.proofs.Lists.{every-map, getD-tab}
 use Rattle.rules.proofs.Fit.{TaskFit}
-use Rattle.state.specs.View.{entry, queueOf, takeUp, turned, turn}
+use Rattle.state.specs.View.{entry, queueOf, turn}
 use Rattle.step.specs.declared.ready.Wait.{Wait}
 use Rattle.step.specs.declared.ready.Wait.the-variants.{Ready, Waits}
 use Rattle.step.specs.Ready.{readinessOf, idle, readyIn, aheadIn, Placed, Waiting}
@@ -33,7 +33,7 @@ use Rattle.runner.specs.declared.count.Stop.{Stop}
 use Rattle.runner.specs.declared.count.Stop.the-variants.{Finished, Stuck}
 use Rattle.runner.specs.Along.{stopOf, endingOf, Along, Decides, Told}
 use Rattle.step.specs.Moves.{storeWith}
-use Rattle.runner.specs.Idle.{awaitedOf, Idling, Tries}
+use Rattle.runner.specs.Idle.{awaitedOf, Idling, tookUp, Tries}
 use Rattle.runner.proofs.Stops.{none-more, not-more, stop-not-more}
 use Rattle.runner.proofs.Along.{room-left, made, told}
 use Rattle.runner.proofs.Acting.{queue-length}
@@ -76,6 +76,14 @@ pub queue-at : (q : List ℕ) (f n i : ℕ) (d : R.Task ℕ) → i < n → getD 
 unfolding queueOf
 queue-at q f n i d h = getD-tab (entry q f) n i d h
 
+-- the front after n turns
+module _ (q : List ℕ) (f queued n : ℕ) (h : n < queued) where
+  pub first : Front n (queueOf q f queued)
+  first = front n (queueOf q f queued) (rw (queue-length q f queued) h)
+
+  pub first-entry : first .first ≡ entry q f n
+  first-entry = sym (first .first-is (entry q f n)) ∙ queue-at q f queued n (entry q f n) h
+
 count-is : (n m : Count) → n .steps ≡ m .steps → n .written ≡ m .written → n ≡ m
 count-is n m e g = ap₂ (λ (a b : ℕ). record { steps = a; written = b }) e g
 
@@ -97,17 +105,17 @@ module _ (r : Recipe) where
   blocked (suc b) room h e e′ c c′ =
       ⊎-elim (λ g. absurd (omega arith)) (λ g. let z : room ≡ 0 = g in rw z (logfull, refl, refl)) h
 
-  tries-of : (u : Run (recipes r)) (budget : ℕ) (given : List ℕ) (n : Count) (log : List ℕ) (c : R.State) (place : ℕ) (o : Option Ending)
+  tries-of : (u : Run (recipes r)) (budget : ℕ) (given : List ℕ) (n : Count) (log : List ℕ) (c : R.State) (o : Option Ending)
       → Told r u budget given n log c o
-      → ((x : Option L.Event) (c′ : R.State) → o ≡ none → next (recipes r) c ≡ goes x c′ → c′ ≡ takeUp (c .queue) place c)
-      → Tries r u budget given n log c place o
-  tries-of u budget given n log c place (some e) t f = t
-  tries-of u budget given n log c place none (x, c′, g, a) f = subst (Along r u budget given n log) (f x c′ refl g) a
+      → ((x : Option L.Event) (c′ : R.State) → o ≡ none → next (recipes r) c ≡ goes x c′ → c′ ≡ tookUp r (c .queue) c)
+      → Tries r u budget given n log c o
+  tries-of u budget given n log c (some e) t f = t
+  tries-of u budget given n log c none (x, c′, g, a) f = subst (Along r u budget given n log) (f x c′ refl g) a
 
 -- ---- what holds where some call has come to a state with no task active
 
-module _ {table next queue : List ℕ} {variables : List ℤ} {front₀ queued issued budget : ℕ} {log : List ℕ} {n : Count}
-    (i : Idling table next queue variables front₀ queued issued budget log n) where
+module _ {table queue : List ℕ} {variables : List ℤ} {front₀ queued issued budget : ℕ} {log : List ℕ} {n : Count}
+    (i : Idling table queue variables front₀ queued issued budget log n) where
   came : Along (recipeOf table) (i .reached .call) budget (i .reached .given) n log (idle issued variables queue front₀ queued)
   came = i .reached .along
 
@@ -161,25 +169,18 @@ module _ (table : List ℕ) (w : Within (recipeOf table)) (issued : ℕ) (variab
   abbrev many : length q ≡ queued
   many = queue-length queue front₀ queued
 
-  -- the front after n turns
-  first : (n : ℕ) → n < queued → Front n q
-  first n h = front n q (rw many h)
-
-  first-entry : (n : ℕ) (h : n < queued) → first n h .first ≡ entry queue front₀ n
-  first-entry n h = sym (first n h .first-is (entry queue front₀ n)) ∙ queue-at queue front₀ queued n (entry queue front₀ n) h
-
   -- one turn
   next-turn : (n : ℕ) → n < aheadIn table c → aheadIn table c < queued → (t : R.Task ℕ) (v : Wait) → t ≡ entry queue front₀ n
       → readinessOf v ≡ readyIn table c (entry queue front₀ n)
       → next (recipes r) (turn n c) ≡ goes (some (L.turned (t .number) (awaitedOf v))) (turn (suc n) c)
   next-turn n h l t v e g =
       let i : n < queued = omega arith in
-      let f = first n i in
+      let f = first queue front₀ queued n i in
       let s : aheadIn table c < length q = rw many l in
       let not-yet : canGo (recipes r) c (entry queue front₀ n) ≡ false = ap (canGo (recipes r) c) (sym (queue-at queue front₀ queued n t i)) ∙ ahead-waits (canGo (recipes r) c) q n t h in
       let waits = waits-of v (readyIn table c (entry queue front₀ n)) g not-yet in
-      next-turned (recipes r) (c .store) q n f s (awaitedOf v) (ap (readyIn table c) (first-entry n i) ∙ waits)
-      ∙ rw (first-entry n i, e) refl
+      next-turned (recipes r) (c .store) q n f s (awaitedOf v) (ap (readyIn table c) (first-entry queue front₀ queued n i) ∙ waits)
+      ∙ rw (first-entry queue front₀ queued n i, e) refl
 
   pub turned-more : {budget : ℕ} {before : Count} {log₀ log : List ℕ} {i : ℕ} (k : ℕ) (log′ : List ℕ) (t : R.Task ℕ) (v : Wait)
       → Turned table issued variables queue front₀ queued budget before log₀ log i → i < k → k ≤ aheadIn table c → aheadIn table c < queued
@@ -203,28 +204,27 @@ module _ (table : List ℕ) (w : Within (recipeOf table)) (issued : ℕ) (variab
 
   module _ (u : Run (recipes (recipeOf table))) (budget : ℕ) (given : List ℕ) (n : Count) (log : List ℕ) where
     module _ (a : Along (recipeOf table) u budget given n log (idle issued variables queue front₀ queued)) where
-      pub finishes : (place : ℕ) → queued ≡ 0 → Tries (recipeOf table) u budget given n log (turn 0 (idle issued variables queue front₀ queued)) place (some finished)
-      finishes place e = told w a Finished n log (rw (next-none (recipes r) (c .store) q (many ∙ e)) (refl, refl, refl))
+      pub finishes : queued ≡ 0 → Tries (recipeOf table) u budget given n log (turn 0 (idle issued variables queue front₀ queued)) (some finished)
+      finishes e = told w a Finished n log (rw (next-none (recipes r) (c .store) q (many ∙ e)) (refl, refl, refl))
 
-      pub jams : (place : ℕ) → 0 < queued → aheadIn table (idle issued variables queue front₀ queued) ≡ queued
-          → Tries (recipeOf table) u budget given n log (turn 0 (idle issued variables queue front₀ queued)) place (some stuck)
-      jams place l e = told w a Stuck n log (rw (next-stuck (recipes r) (c .store) q (rw many l) (e ∙ sym many)) (refl, refl, refl))
+      pub jams : 0 < queued → aheadIn table (idle issued variables queue front₀ queued) ≡ queued
+          → Tries (recipeOf table) u budget given n log (turn 0 (idle issued variables queue front₀ queued)) (some stuck)
+      jams l e = told w a Stuck n log (rw (next-stuck (recipes r) (c .store) q (rw many l) (e ∙ sym many)) (refl, refl, refl))
 
     -- the take-up, after k turns
-    module _ (k place : ℕ) (stop : Stop) (n′ : Count) (log′ : List ℕ)
+    module _ (k : ℕ) (stop : Stop) (n′ : Count) (log′ : List ℕ)
         (a : Along (recipeOf table) u budget given n log (turn k (idle issued variables queue front₀ queued)))
         (some-go : aheadIn table (idle issued variables queue front₀ queued) < queued)
         (before : k ≤ aheadIn table (idle issued variables queue front₀ queued))
-        (d : Takes budget (L.taken (entry queue front₀ k .number)) stop n n′ log log′)
-        (past : (t : R.Task ℕ) → t .place ≡ entry queue front₀ k .place → pastAt (at (recipeOf table) (t .place)) t ≡ goTo t place) where
+        (d : Takes budget (L.taken (entry queue front₀ k .number)) stop n n′ log log′) where
       inside : k < queued
       inside = omega arith
 
       abbrev f : Front k q
-      f = first k inside
+      f = first queue front₀ queued k inside
 
       abbrev Tried : Type 0
-      Tried = Tries (recipeOf table) u budget given n′ log′ (turn k (idle issued variables queue front₀ queued)) place (endingOf stop)
+      Tried = Tries (recipeOf table) u budget given n′ log′ (turn k (idle issued variables queue front₀ queued)) (endingOf stop)
 
       taken-up : k ≡ aheadIn table c → Tried
       taken-up e =
@@ -232,12 +232,11 @@ module _ (table : List ℕ) (w : Within (recipeOf table)) (issued : ℕ) (variab
           let s : aheadIn table c < length q = rw many some-go in
           let x : next (recipes r) (turn k c) ≡ goes (some (L.taken (f .first .number))) (record { store = c .store; active = some (pastAt (at r (f .first .place)) (f .first)); queue = f .rest })
           = next-taken (recipes r) (c .store) q k f s e t in
-          let number = ap (λ (t : R.Task ℕ). t .number) (first-entry k inside) in
+          let number = ap (λ (t : R.Task ℕ). t .number) (first-entry queue front₀ queued k inside) in
           let after : R.State = record { store = c .store; active = some (pastAt (at r (f .first .place)) (f .first)); queue = f .rest } in
-          let up = past (f .first) (ap (λ (t : R.Task ℕ). t .place) (first-entry k inside)) in
-          tries-of r u budget given n′ log′ (turn k c) place (endingOf stop)
+          tries-of r u budget given n′ log′ (turn k c) (endingOf stop)
           (told w a stop n′ log′ (rw (x, number) (d .all r after)))
-          (λ y c′ o g. let z : after ≡ c′ = cc in sym z ∙ rw (f .is, up) refl)
+          (λ y c′ o g. let z : after ≡ c′ = cc in sym z ∙ rw (f .is) refl)
 
       held : (budget - n .steps ≡ 0) ⊎ ((length log - n .written) / 8 ≡ 0) → Tried
       held h =
@@ -245,10 +244,10 @@ module _ (table : List ℕ) (w : Within (recipeOf table)) (issued : ℕ) (variab
           let (e, c″, x) = next-tried (recipes r) (c .store) q k f s in
           let (end, p, p′) = blocked r (budget - n .steps) ((length log - n .written) / 8) h e (L.taken (entry queue front₀ k .number)) c″ c″ in
           let said = rw p′ at (d .all r c″) in
-          tries-of r u budget given n′ log′ (turn k c) place (endingOf stop)
+          tries-of r u budget given n′ log′ (turn k c) (endingOf stop)
           (told w a stop n′ log′ (rw (x, p) said))
           (λ y c′ o g. absurd (not-more (stopOf end) (stop-not-more end) (sym (ap endingOf (said .0)) ∙ o)))
 
       pub tries : (k ≡ aheadIn table (idle issued variables queue front₀ queued)) ⊎ ((budget - n .steps ≡ 0) ⊎ ((length log - n .written) / 8 ≡ 0))
-          → Tries (recipeOf table) u budget given n′ log′ (turn k (idle issued variables queue front₀ queued)) place (endingOf stop)
+          → Tries (recipeOf table) u budget given n′ log′ (turn k (idle issued variables queue front₀ queued)) (endingOf stop)
       tries = ⊎-elim taken-up held

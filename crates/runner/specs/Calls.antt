@@ -1,9 +1,10 @@
 -- What start and run promise: equations with the definitions, for answer, block and log; and what follows of lists of calls.
 -- Assumes nothing.
-use Prim.Native.Nat.{ℕ, _+_}
+use Prim.Native.Nat.{ℕ, _+_, _*_, _≤_}
 use mathlib.Core.Path.{_≡_}
 use mathlib.Core.Logic.{_⊎_}
 use mathlib.Core.List.{List, [], _∷_, map}
+use lib.ListN.{length}
 use Rattle.rules.specs.Run as R
 use Rattle.rules.specs.Run.{Outcome, runOn}
 use Rattle.rules.specs.Demand as D
@@ -47,8 +48,9 @@ Calls t b (c ∷ cs) = Contract t b c × Calls t (c .block-left) cs
 abbrev pub MeetsDemand : (table block : List ℕ) → Called → Type 0
 MeetsDemand t b c = (cs : List Called) → Calls t (c .block-left) cs → Meets t b (map madeOf (c ∷ cs))
 
--- "a paused run that is continued equals one run": a second call p on the state that the call o left, and one call q in place of both
+-- "a paused run that is continued equals one run": a second call p on the state that the call o left, and one call q in place of both,
+-- whose log is long enough for the records of both
 abbrev pub ContinuesAsOne : (table block : List ℕ) → Called → Type 0
 ContinuesAsOne t b o = (p q : Called) → Contract t (o .block-left) p → q .budget ≡ o .answer .steps + p .budget → Contract t b q
-    → (o .answer .number ≡ 1) ⊎ (o .answer .number ≡ 5) → ¬ (p .answer .number ≡ 5) → ¬ (q .answer .number ≡ 5)
+    → (o .answer .number ≡ 1) ⊎ (o .answer .number ≡ 5) → ¬ (p .answer .number ≡ 5) → 8 * (o .answer .records + p .answer .records) ≤ length (q .log)
     → Continues (result o) (result p) (result q)

@@ -4,16 +4,16 @@ use Prim.Native.Nat.{ℕ, _+_, _*_, _≤_, _<_}
 use mathlib.Core.Path.{_≡_}
 use mathlib.Core.Bool.{true}
 use mathlib.Core.Option.{Option, none, some}
-use mathlib.Core.List.{List}
+use mathlib.Core.List.{List, [], _∷_}
 use lib.IntN.{ℤ, pos}
 use lib.ListN.{length}
 use Rattle.rules.specs.Recipe.{Recipe}
 use Rattle.rules.specs.Table.{fine, check, recipeOf}
-use Rattle.rules.specs.Places.{isPlace}
+use Rattle.rules.specs.Places.{at, isPlace}
 use Rattle.rules.specs.State as R
 use Rattle.rules.specs.Scheduler.{Ending, Run}
-use Rattle.rules.specs.Steps.{recipes}
-use Rattle.state.specs.View.{entry, takeUp}
+use Rattle.rules.specs.Steps.{recipes, pastAt}
+use Rattle.state.specs.View.{entry}
 use Rattle.step.specs.declared.ready.Wait.{Wait}
 use Rattle.step.specs.declared.ready.Wait.the-variants.{Ready, Waits}
 use Rattle.step.specs.Ready.{idle, aheadIn, Waiting}
@@ -34,24 +34,26 @@ pub record Turning (table queue : List ℕ) (variables : List ℤ) (front queued
   pub in-budget : n .steps + k ≤ budget
   pub in-log : n .written + 8 * k ≤ length log
 
+-- a call on an accepted table has come to a state with no task active
+pub record Idling (table queue : List ℕ) (variables : List ℤ) (front queued issued budget : ℕ) (log : List ℕ) (n : Count) : Type 0 where
+  pub accepted : check table ≡ fine
+  pub front-fits : front < 32
+  pub reached : Reached (recipeOf table) budget n log (idle issued variables queue front queued)
+
 -- the queued task k stands at a place of an accepted table, with the links of the table at hand
-pub record Taking (table next queue : List ℕ) (front k budget : ℕ) (log : List ℕ) (n : Count) : Type 0 where
+pub record Taking (table next queue : List ℕ) (front k : ℕ) : Type 0 where
   pub accepted : check table ≡ fine
   pub leads : Leads (recipeOf table) next
   pub front-fits : front < 32
   pub few : k < 32
   pub placed : isPlace (recipeOf table) (entry queue front k .place) ≡ true
-  pub in-budget : n .steps ≤ budget
-  pub in-log : n .written ≤ length log
 
--- a call on an accepted table has come to a state with no task active, with the links of the table at hand
-pub record Idling (table next queue : List ℕ) (variables : List ℤ) (front queued issued budget : ℕ) (log : List ℕ) (n : Count) : Type 0 where
-  pub accepted : check table ≡ fine
-  pub leads : Leads (recipeOf table) next
-  pub front-fits : front < 32
-  pub reached : Reached (recipeOf table) budget n log (idle issued variables queue front queued)
+-- the front becomes active, past its await if it stood at one
+abbrev pub tookUp : Recipe → List (R.Task ℕ) → R.State → R.State
+tookUp r [] c = c
+tookUp r (t ∷ q) c = record { store = c .store; active = some (pastAt (at r (t .place)) t); queue = q }
 
--- the call ends at the state c, or its front is taken up and goes on at a place
-abbrev pub Tries : (r : Recipe) → Run (recipes r) → (budget : ℕ) → (given : List ℕ) → Count → (log : List ℕ) → R.State → (place : ℕ) → Option Ending → Type 0
-Tries r u budget given n log c place (some e) = Ended r u given n log c e
-Tries r u budget given n log c place none = Along r u budget given n log (takeUp (c .queue) place c)
+-- the call ends at the state c, or its front is taken up
+abbrev pub Tries : (r : Recipe) → Run (recipes r) → (budget : ℕ) → (given : List ℕ) → Count → (log : List ℕ) → R.State → Option Ending → Type 0
+Tries r u budget given n log c (some e) = Ended r u given n log c e
+Tries r u budget given n log c none = Along r u budget given n log (tookUp r (c .queue) c)

@@ -7,15 +7,16 @@ use table::check::Verdict;
 use table::check::check_table;
 use table::links::links;
 ghost use mathlib.Core.Path.{_≡_};
-ghost use mathlib.Core.Option.{some};
+ghost use mathlib.Core.Bool.{false};
+ghost use mathlib.Core.Option.{some, Option·map};
 ghost use Rattle.rules.specs.Table.{fine, _else_, check, recipeOf};
 ghost use Rattle.rules.specs.Places.{isPlace};
 ghost use Rattle.rules.specs.State.{checkBlock, readBlock};
-ghost use Rattle.rules.specs.Scheduler.{Ending, numberOf, run};
+ghost use Rattle.rules.specs.Scheduler.{numberOf, run};
 ghost use Rattle.rules.specs.Steps.{recipes};
 ghost use Rattle.rules.specs.Run.{roomOf, outcome};
 ghost use Rattle.table.specs.Check.{verdictOf};
-ghost use Rattle.runner.specs.Along.{endingOf};
+ghost use Rattle.runner.specs.Along.{endingOf, isMore};
 ghost use Rattle.runner.specs.Calls.{outcomeOf};
 
 // The table first, then the block.
@@ -29,9 +30,10 @@ pub fn verdict(table: &[u8], state: &[u8]) -> Verdict
     block::check(table, state)
 }
 
-// The number of an ending.
+// The number of a stop's ending. More has none, and no call ends with it.
 pub fn number_of(stop: Stop) -> u32
-    ensures { λ r. ⌜ ((e : Ending) → endingOf stop ≡ some e → r ≡ numberOf e) ⌝ }
+    requires { ⌜ isMore stop ≡ false ⌝ }
+    ensures { λ r. ⌜ some r ≡ Option·map numberOf (endingOf stop) ⌝ }
 {
     match stop {
         Stop::More => 0,

@@ -6,10 +6,17 @@ use crate::count::Stop;
 use crate::count::is_more;
 use crate::idle::try_all;
 use state::State;
+use state::unpack;
+use step::ready::past;
 ghost use mathlib.Core.Path.{_≡_};
 ghost use mathlib.Core.Bool.{false};
-ghost use Prim.Native.Nat.{_≤_, _<_};
-ghost use Rattle.state.specs.View.{view, Fine, takeUp, turn};
+ghost use Prim.Native.Nat.{ℕ, _<_};
+ghost use Rattle.rules.specs.Table.{recipeOf};
+ghost use Rattle.rules.specs.Places.{at};
+ghost use Rattle.rules.specs.State as R;
+ghost use Rattle.rules.specs.Steps.{goTo, pastAt};
+ghost use Rattle.state.specs.View.{entry, view, Fine, takeUp, turn};
+ghost use Rattle.runner.specs.Idle.{Taking};
 ghost use Rattle.runner.specs.Drive.{Driving, Drives};
 
 // Why a call stopped, its count, and the state that it leaves.
@@ -19,9 +26,19 @@ pub struct Ran {
     pub state: State,
 }
 
+// Where the queued task k goes on when it becomes active.
+fn onward(table: &[u8], next: &[u16; 4096], queue: &[u64; 32], front: usize, k: usize) -> u16
+    requires { ⌜ Taking (now table) (now next) (now queue) front k ⌝ }
+    ensures { λ r. ⌜ ((t : R.Task ℕ) → t .place ≡ entry (now (queue .entry)) front k .place → pastAt (at (recipeOf (now (table .entry))) (t .place)) t ≡ goTo t r) ⌝ }
+{
+    let at = (front + k) % 32;
+    let t = unpack(queue[at]);
+    past(table, next, t.place)
+}
+
 // The front is turned to the back, so often, and the next becomes active, at this place.
 fn taken(s: State, turns: usize, place: u16) -> State
-    requires { ⌜ Fine s × (s .active ≡ false) × (turns ≤ s .queued) × (0 < s .queued) ⌝ }
+    requires { ⌜ Fine s × (s .active ≡ false) × (turns < s .queued) ⌝ }
     ensures { λ r. ⌜ (view r ≡ takeUp (turn turns (view s) .queue) place (turn turns (view s))) × Fine r ⌝ }
 {
     if turns == 0 {
@@ -80,7 +97,6 @@ pub fn drive(
         } else {
             let w = try_all(
                 table,
-                next,
                 &s.queue,
                 &s.variables,
                 s.front,
@@ -92,7 +108,6 @@ pub fn drive(
             );
             let stop = w.stop;
             let turns = w.turns;
-            let place = w.place;
             n = w.count;
             if !is_more(stop) {
                 return Ran {
@@ -101,6 +116,7 @@ pub fn drive(
                     state: s.turn(turns),
                 };
             }
+            let place = onward(table, next, &s.queue, s.front, turns);
             s = taken(s, turns, place);
         }
     }

@@ -7,7 +7,6 @@ use step::events::Event;
 use step::events::put_event;
 use step::ready::Wait;
 use step::ready::first_ready;
-use step::ready::past;
 use step::ready::queued_at;
 ghost use mathlib.Core.Path.{_≡_};
 ghost use mathlib.Core.Bool.{cond};
@@ -18,22 +17,20 @@ ghost use lib.Dec.{leb};
 ghost use lib.ListN.{length};
 ghost use Rattle.rules.specs.Recipe.{Recipe};
 ghost use Rattle.rules.specs.Table.{recipeOf};
-ghost use Rattle.rules.specs.Places.{at};
 ghost use Rattle.rules.specs.State as R;
 ghost use Rattle.rules.specs.Log.{taken};
 ghost use Rattle.rules.specs.Scheduler.{Run, goes, test};
-ghost use Rattle.rules.specs.Steps.{recipes, goTo, pastAt};
+ghost use Rattle.rules.specs.Steps.{recipes};
 ghost use Rattle.state.specs.View.{entry, turn};
 ghost use Rattle.step.specs.Ready.{idle};
 ghost use Rattle.runner.specs.Along.{endingOf, Along, Decides};
-ghost use Rattle.runner.specs.Idle.{awaitedOf, Turning, Taking, Idling, Tries};
+ghost use Rattle.runner.specs.Idle.{awaitedOf, Turning, Idling, Tries};
 
-// Why no task was taken up, or that one was; how many were turned before it; and where it goes on.
+// Why no task was taken up, or that one was; and how many were turned before it.
 pub struct Tried {
     pub stop: Stop,
     pub count: Count,
     pub turns: usize,
-    pub place: u16,
 }
 
 // The number that a task waits for.
@@ -91,29 +88,18 @@ fn turn_first(
 }
 
 // The queued task k, which is ready, is taken up, if budget and log have room for it.
-fn take(
-    table: &[u8],
-    next: &[u16; 4096],
-    queue: &[u64; 32],
-    front: usize,
-    k: usize,
-    budget: u32,
-    log: &mut [u8],
-    n: Count,
-) -> Tried
-    requires { ⌜ Taking (now table) (now next) (now queue) front k budget (now log) n ⌝ }
+fn take(queue: &[u64; 32], front: usize, k: usize, budget: u32, log: &mut [u8], n: Count) -> Tried
+    requires { ⌜ (front < 32) × (k < 32) × (n .steps ≤ budget) × (n .written ≤ length (now log)) ⌝ }
     ensures { λ r. ⌜ ((x : Recipe) (c : R.State) → Decides x (test (recipes x) (budget - n .steps) ((length (now (log .entry)) - n .written) / 8) (goes (some (taken (entry (now (queue .entry)) front k .number))) c)) (r .stop) n (r .count) (now (log .entry)) (now (log .exit))) ⌝ }
-    ensures { λ r. ⌜ (r .turns ≡ k) × ((t : R.Task ℕ) → t .place ≡ entry (now (queue .entry)) front k .place → pastAt (at (recipeOf (now (table .entry))) (t .place)) t ≡ goTo t (r .place)) ⌝ }
+    ensures { λ r. ⌜ r .turns ≡ k ⌝ }
 {
     let at = (front + k) % 32;
     let t = unpack(queue[at]);
-    let place = past(table, next, t.place);
     if n.steps == budget {
         return Tried {
             stop: Stop::Paused,
             count: n,
             turns: k,
-            place: place,
         };
     }
     let d = note(Event::Taken(t.number), log, n);
@@ -123,14 +109,12 @@ fn take(
         stop: stop,
         count: count,
         turns: k,
-        place: place,
     }
 }
 
 // Tries until a task is taken up, or the call stops.
 pub fn try_all<'a>(
     table: &[u8],
-    next: &[u16; 4096],
     queue: &'a [u64; 32],
     variables: &'a [i32; 64],
     front: usize,
@@ -140,16 +124,15 @@ pub fn try_all<'a>(
     log: &mut [u8],
     before: Count,
 ) -> Tried
-    requires { ⌜ Idling (now table) (now next) (now queue) (now variables) front queued issued budget (now log) before ⌝ }
-    ensures { λ r. ⌜ (r .turns ≤ queued) × (endingOf (r .stop) ≡ none → 0 < queued) × (endingOf (r .stop) ≡ none → before .steps < r .count .steps) ⌝ }
-    ensures { λ r. ⌜ ((u : Run (recipes (recipeOf (now (table .entry))))) (given : List ℕ) → Along (recipeOf (now (table .entry))) u budget given before (now (log .entry)) (idle issued (now (variables .entry)) (now (queue .entry)) front queued) → Tries (recipeOf (now (table .entry))) u budget given (r .count) (now (log .exit)) (turn (r .turns) (idle issued (now (variables .entry)) (now (queue .entry)) front queued)) (r .place) (endingOf (r .stop))) ⌝ }
+    requires { ⌜ Idling (now table) (now queue) (now variables) front queued issued budget (now log) before ⌝ }
+    ensures { λ r. ⌜ (r .turns ≤ queued) × (endingOf (r .stop) ≡ none → (r .turns < queued) × (before .steps < r .count .steps)) ⌝ }
+    ensures { λ r. ⌜ ((u : Run (recipes (recipeOf (now (table .entry))))) (given : List ℕ) → Along (recipeOf (now (table .entry))) u budget given before (now (log .entry)) (idle issued (now (variables .entry)) (now (queue .entry)) front queued) → Tries (recipeOf (now (table .entry))) u budget given (r .count) (now (log .exit)) (turn (r .turns) (idle issued (now (variables .entry)) (now (queue .entry)) front queued)) (endingOf (r .stop))) ⌝ }
 {
     if queued == 0 {
         return Tried {
             stop: Stop::Finished,
             count: before,
             turns: 0,
-            place: 0,
         };
     }
     let ahead = first_ready(table, queue, front, queued, issued, variables);
@@ -158,7 +141,6 @@ pub fn try_all<'a>(
             stop: Stop::Stuck,
             count: before,
             turns: 0,
-            place: 0,
         };
     }
     let left = (budget - before.steps) as usize;
@@ -176,5 +158,5 @@ pub fn try_all<'a>(
         log,
         before,
     );
-    take(table, next, queue, front, k, budget, log, n)
+    take(queue, front, k, budget, log, n)
 }

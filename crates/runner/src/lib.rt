@@ -12,7 +12,7 @@ use state::fresh;
 use table::check::check_table;
 ghost use mathlib.Core.Path.{_≡_};
 ghost use Rattle.rules.specs.Run.{startOn, runOn};
-ghost use Rattle.rules.specs.Answers.{StartAnswers, RunAnswers};
+ghost use Rattle.rules.specs.Answers.{StartAnswers, StartSays, RunAnswers, RunSays};
 ghost use Rattle.runner.specs.Calls.{startedOf, outcomeOf, called, MeetsDemand, ContinuesAsOne};
 
 // 0 and 0 when accepted; else why not, and the faulty record.
@@ -35,6 +35,7 @@ pub struct Answer {
 pub fn start(table: &[u8], state: &mut [u8]) -> Started
     ensures { λ r. ⌜ startedOf r (now (state .exit)) ≡ startOn (now (table .entry)) (now (state .entry)) ⌝ }
     ensures { λ r. ⌜ StartAnswers (now (state .entry)) (startedOf r (now (state .exit))) ⌝ }
+    ensures { λ r. ⌜ StartSays (now (table .entry)) (now (state .entry)) (startedOf r (now (state .exit))) ⌝ }
 {
     let v = check_table(table);
     if v.number != 0 {
@@ -60,6 +61,7 @@ pub fn start(table: &[u8], state: &mut [u8]) -> Started
 pub fn run(table: &[u8], state: &mut [u8], budget: u32, log: &mut [u8]) -> Answer
     ensures { λ r. ⌜ outcomeOf r (now (state .exit)) (now (log .exit)) ≡ runOn (now (table .entry)) (now (state .entry)) budget (now (log .entry)) ⌝ }
     ensures { λ r. ⌜ RunAnswers (now (state .entry)) (now (log .entry)) (outcomeOf r (now (state .exit)) (now (log .exit))) ⌝ }
+    ensures { λ r. ⌜ RunSays (now (table .entry)) (now (state .entry)) budget (now (log .entry)) (outcomeOf r (now (state .exit)) (now (log .exit))) ⌝ }
     ensures { λ r. ⌜ MeetsDemand (now (table .entry)) (now (state .entry)) (called budget (now (log .entry)) r (now (state .exit)) (now (log .exit))) ⌝ }
     ensures { λ r. ⌜ ContinuesAsOne (now (table .entry)) (now (state .entry)) (called budget (now (log .entry)) r (now (state .exit)) (now (log .exit))) ⌝ }
 {
@@ -80,6 +82,7 @@ pub fn run(table: &[u8], state: &mut [u8], budget: u32, log: &mut [u8]) -> Answe
 pub extern "C" fn recipe_start(table: &[u8], state: &mut [u8]) -> Started
     ensures { λ r. ⌜ startedOf r (now (state .exit)) ≡ startOn (now (table .entry)) (now (state .entry)) ⌝ }
     ensures { λ r. ⌜ StartAnswers (now (state .entry)) (startedOf r (now (state .exit))) ⌝ }
+    ensures { λ r. ⌜ StartSays (now (table .entry)) (now (state .entry)) (startedOf r (now (state .exit))) ⌝ }
 {
     start(table, state)
 }
@@ -88,6 +91,7 @@ pub extern "C" fn recipe_start(table: &[u8], state: &mut [u8]) -> Started
 pub extern "C" fn recipe_run(table: &[u8], state: &mut [u8], budget: u32, log: &mut [u8]) -> Answer
     ensures { λ r. ⌜ outcomeOf r (now (state .exit)) (now (log .exit)) ≡ runOn (now (table .entry)) (now (state .entry)) budget (now (log .entry)) ⌝ }
     ensures { λ r. ⌜ RunAnswers (now (state .entry)) (now (log .entry)) (outcomeOf r (now (state .exit)) (now (log .exit))) ⌝ }
+    ensures { λ r. ⌜ RunSays (now (table .entry)) (now (state .entry)) budget (now (log .entry)) (outcomeOf r (now (state .exit)) (now (log .exit))) ⌝ }
     ensures { λ r. ⌜ MeetsDemand (now (table .entry)) (now (state .entry)) (called budget (now (log .entry)) r (now (state .exit)) (now (log .exit))) ⌝ }
     ensures { λ r. ⌜ ContinuesAsOne (now (table .entry)) (now (state .entry)) (called budget (now (log .entry)) r (now (state .exit)) (now (log .exit))) ⌝ }
 {

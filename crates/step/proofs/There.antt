@@ -2,7 +2,7 @@
 -- Assumes nothing.
 use Prim.Native.Nat.{ℕ, _+_, _*_, _≤_, _<_}
 use mathlib.Core.Path.{_≡_, refl, sym, ap, _∙_}
-use mathlib.Core.Bool.{Bool, true, false, _&&_, _||_, cond}
+use mathlib.Core.Bool.{Bool, true, false, _&&_, _||_}
 use mathlib.Core.List.{List}
 use mathlib.Core.Logic.{dite}
 use native.Mathlib.Decide.{decLt, ℕ-discrete}
@@ -21,7 +21,7 @@ use Rattle.rules.specs.State.{Task, Store}
 use Rattle.rules.specs.Scheduler.{ready, waits-for}
 use Rattle.rules.specs.Steps.{isDone, envOf, goTo, waitAt, pastAt}
 use Rattle.rules.proofs.Verdicts.{and-true}
-use Rattle.rules.proofs.Standing.{spells, size, at-is, stands-at, at-end, is-place}
+use Rattle.rules.proofs.Standing.{choose, kind-at, spells, size, at-is, stands-at, at-end, is-place}
 use Rattle.table.specs.Links.{isStatement}
 use Rattle.step.specs.Ready.{awaitAt}
 use Rattle.step.specs.Linked.{Leads, Linked}
@@ -67,11 +67,6 @@ module _ (x : Point ℕ) (s : Store) (live : ℕ → Bool) (t : Task ℕ) (n k :
 pub past-await : (x : Point ℕ) (t : Task ℕ) (n k : ℕ) → x ≡ awaits n k → pastAt x t ≡ goTo t k
 past-await x t n k e = rw e
 
--- what holds of each point that a chain of tests leads to
-choose : (f : Point ℕ → Bool) (v : Bool) (n m : ℕ) (x y : Point ℕ) → f x ≡ v → (¬ (n ≡ m) → f y ≡ v)
-    → f (cond (eqb n m) x y) ≡ v
-choose f v n m x y h g = dite (ℕ-discrete n m) (λ e. rw (eq-eqb n m e) h) (λ e. rw (ne-eqb n m e) (g e))
-
 other-kind : (p : List ℕ) (i next : ℕ) → ¬ (kindOf p ≡ 8) → isAwait (pointAt p i next) ≡ false
 unfolding pointAt
 other-kind p i next h =
@@ -103,9 +98,6 @@ unfolding pointAt
 await-kind p i next h = rw h
 
 -- ---- a place
-
-kind-of : (t : List ℕ) (off : ℕ) → kindOf (drop off t) ≡ getD t off 0
-kind-of t off = getD-drop off t 0 0 ∙ ap (λ (j : ℕ). getD t j 0) (omega arith)
 
 -- a place of an accepted table
 pub record Place (t : List ℕ) (i : ℕ) : Type 0 where
@@ -151,10 +143,10 @@ module _ {t : List ℕ} {i : ℕ} (p : Place t i) where
       (λ l.
       rw (lt-ltb (8 * i) (length t) l)
       (dite (ℕ-discrete (kindOf (drop (8 * i) t)) 8)
-      (λ e. ap isAwait (await-there l e) ∙ sym (eq-eqb (getD t (8 * i) 0) 8 (sym (kind-of t (8 * i)) ∙ e)))
+      (λ e. ap isAwait (await-there l e) ∙ sym (eq-eqb (getD t (8 * i) 0) 8 (sym (kind-at t (8 * i)) ∙ e)))
       (λ e.
       ap isAwait (point-there l) ∙ other-kind _ i _ e
-      ∙ sym (ne-eqb (getD t (8 * i) 0) 8 (λ g. e (kind-of t (8 * i) ∙ g))))))
+      ∙ sym (ne-eqb (getD t (8 * i) 0) 8 (λ g. e (kind-at t (8 * i) ∙ g))))))
       (λ l. rw (le-ltb (8 * i) (length t) (omega arith)) (ap isAwait (end-there (omega arith))))
 
   -- an await's record, by the test of its kind
@@ -174,7 +166,7 @@ module _ {t : List ℕ} {i : ℕ} (p : Place t i) where
         inside = omega (arith, s .whole, length-drop (8 * i) t);
         small = few-there l;
         named = rw n at (s .named);
-        is = rw n at (await-there l (kind-of t (8 * i) ∙ eqb-true (getD t (8 * i) 0) 8 (a .1)));
+        is = rw n at (await-there l (kind-at t (8 * i) ∙ eqb-true (getD t (8 * i) 0) 8 (a .1)));
       }
 
   -- and elsewhere
@@ -183,7 +175,7 @@ module _ {t : List ℕ} {i : ℕ} (p : Place t i) where
 
   -- a procedure's record, which is the end of the procedure before
   pub stop-there : 8 * i < length t → getD t (8 * i) 0 ≡ 1 → at (recipeOf t) i ≡ stop
-  stop-there l h = point-there l ∙ stop-kind (drop (8 * i) t) i (nextOf (at (recipeOf t) i)) (kind-of t (8 * i) ∙ h)
+  stop-there l h = point-there l ∙ stop-kind (drop (8 * i) t) i (nextOf (at (recipeOf t) i)) (kind-at t (8 * i) ∙ h)
 
   -- a statement's record
   module _ (l : 8 * i < length t) (h : ¬ (getD t (8 * i) 0 ≡ 1)) where
@@ -196,7 +188,7 @@ module _ {t : List ℕ} {i : ℕ} (p : Place t i) where
         omega (arith, length-drop (8 * i) t, size t (p .bytes) (p .accepted), spells t (p .bytes) (p .accepted) .within .few)
 
     pub from-two : 2 ≤ kindOf (drop (8 * i) t)
-    from-two = omega (arith, shape-there l .some-kind, kind-of t (8 * i))
+    from-two = omega (arith, shape-there l .some-kind, kind-at t (8 * i))
 
     pub to-eight : kindOf (drop (8 * i) t) ≤ 8
     to-eight =

@@ -2,6 +2,7 @@
 use expr::eval;
 use expr::variable;
 use state::Task;
+use table::record::enclosed;
 use table::record::from;
 use table::record::span_of;
 use table::record::word_of;
@@ -35,7 +36,7 @@ fn value_of(part: &[u8], variables: &[i32; 64], parameter: i32) -> i32
     requires { ⌜ Enclosing (now part) ⌝ }
     ensures { λ r. ⌜ r ≡ value (record { variables = now (variables .entry); parameter = parameter }) (exprOf (inner (now (part .entry)))) ⌝ }
 {
-    eval(from(part, 8), variables, parameter)
+    eval(enclosed(part), variables, parameter)
 }
 
 // Where the body of an if or a while leads.
@@ -43,7 +44,7 @@ fn body_of(part: &[u8], place: usize, follow: u16) -> u16
     requires { ⌜ Enclosing (now part) × (place + 1 + spanOf (now part) ≤ 4096) ⌝ }
     ensures { λ r. ⌜ r ≡ intoBody (now (part .entry)) place follow ⌝ }
 {
-    let span = span_of(from(part, 8));
+    let span = span_of(enclosed(part));
     let first = place + 2 + span;
     if 1 + span < span_of(part) {
         return first as u16;

@@ -13,6 +13,8 @@ use lib.Seq.{drop-drop}
 use borrow.Author.Tests.{leb-true, eqb-true}
 use Rattle.rules.specs.Table as T
 use Rattle.rules.specs.Table.{Encloses, nothing, one-expression, expression-statements, two-expressions, kindOf, spanOf, inner, after, kindRow, isOf, Sort, Ends, at-end, within, spanFits, recordFault, Verdict, fine, fault, _else_, enclosed, checkE, checkRows}
+use Rattle.rules.specs.Answers.{ofTable}
+use Rattle.rules.proofs.Answers.{Numbers, own-number, checkE-number}
 use Rattle.rules.proofs.Verdicts.{and-true}
 use Rattle.rules.proofs.Grammar.Checking.{Right, right, right-whole, right-span, inside, row-empty, row-fault, row-deep, row-step, length-inner, length-after}
 use Rattle.rules.proofs.Grammar.Accepting.{right-of}
@@ -175,6 +177,19 @@ row-first s d i p o n = go d (ℕ-discrete (recordFault s within p) 0)
         ∙ else-assoc (exprInside (enclosing p) d i p) (checkRows T.statement d (bodyAt i p) (body p)) (checkRows s (suc d) (i + 1 + spanOf p) (after p))
         ∙ ap (λ (e : ℕ). exprInside (enclosing p) e i p else (checkRows T.statement e (bodyAt i p) (body p) else checkRows s (suc d) (i + 1 + spanOf p) (after p))) (sym (sub-one (suc d)))
         ∙ ap (λ (v : Verdict). v else rest (suc d)) (head-below s (suc d) i p z (omega arith))
+
+-- the number of a head's fault
+pub head-number : (s : Sort) (d i : ℕ) (p : List ℕ) → Numbers ofTable (headOf s d i p)
+unfolding headOf exprInside
+head-number s zero i p = own-number s within i p (fault 16 i) refl
+head-number s (suc d) i p = own-number s within i p _ (inside (enclosing p))
+  where
+    inside : (x : Encloses) → Numbers ofTable (exprInside x d i p)
+    inside nothing = tt
+    inside Encloses.statements = tt
+    inside one-expression = checkE-number d (i + 1) at-end (inner p)
+    inside expression-statements = checkE-number d (i + 1) within (inner p)
+    inside two-expressions = tt
 
 -- a head that passes
 pub record HeadFine (s : Sort) (d i : ℕ) (p : List ℕ) : Type 0 where

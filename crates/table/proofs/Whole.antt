@@ -7,13 +7,13 @@ use mathlib.Core.List.{List}
 use native.Mathlib.Omega.{arith}
 use lib.Dec.{eqb, leb}
 use lib.IntN.{natAbs}
-use native.Mathlib.Nat.{add-zero}
 use lib.ListN.{length, getD, drop, length-drop}
-use lib.Seq.{drop-drop, getD-drop}
+use lib.Seq.{drop-drop}
 use borrow.Author.Tests.{eq-eqb, ne-eqb, le-leb, lt-ltb, le-ltb}
 use Rattle.rules.specs.Fields.{signed}
-use Rattle.rules.specs.Table.{Verdict, _else_, kindOf, fine, fault, procedure, checkRows, checkSpawns, namesNone, procedures, records, lengthFits, check}
+use Rattle.rules.specs.Table.{kindOf, fine, fault, procedure, checkRows, checkSpawns, namesNone, procedures, records, lengthFits, check}
 use Rattle.rules.proofs.Grammar.Theorem.{length-fits}
+use Rattle.rules.proofs.Standing.{kind-at}
 use Rattle.table.specs.Check.{Row}
 
 -- ---- the length
@@ -95,9 +95,6 @@ module _ {t : List ℕ} {off : ℕ} (r : Rest t off) where
 pub rest-start : (t : List ℕ) → Row 0 t → Rest t 0
 rest-start t r = record { inside = omega arith; aligned = r .aligned }
 
-pub kind-at : (t : List ℕ) (off : ℕ) → kindOf (drop off t) ≡ getD t off 0
-kind-at t off = getD-drop off t 0 0 ∙ ap (λ (n : ℕ). getD t n 0) (add-zero off)
-
 -- a procedure is counted, another record is not
 module _ (t : List ℕ) (off count : ℕ) (r : Rest t off) (h : off < length t) (e : count + procedures (records (drop off t)) (drop off t) ≡ procedures (records t) t) where
   pub counted : getD t off 0 ≡ 1 → count + 1 + procedures (records (drop (off + 8) t)) (drop (off + 8) t) ≡ procedures (records t) t
@@ -113,8 +110,11 @@ module _ (t : List ℕ) where
   unfolding check
   wrong-length h = rw h refl
 
-  -- what was found of the procedures is v, of the spawns among so many procedures w
-  pub both : {v w : Verdict} {n : ℕ} → lengthFits (length t) ≡ true → v ≡ checkRows procedure 17 0 t → n ≡ procedures (records t) t
-      → w ≡ checkSpawns (records t) n 0 t → (v else w) ≡ check t
-  unfolding check
-  both h e f g = rw (e, g, f, h) refl
+  module _ (h : lengthFits (length t) ≡ true) where
+    pub rows-fault : {n i : ℕ} → checkRows procedure 17 0 t ≡ fault n i → fault n i ≡ check t
+    unfolding check
+    rows-fault e = rw (h, e) refl
+
+    pub spawns-decide : {n : ℕ} → checkRows procedure 17 0 t ≡ fine → n ≡ procedures (records t) t → checkSpawns (records t) n 0 t ≡ check t
+    unfolding check
+    spawns-decide e f = rw (f, h, e) refl

@@ -2,7 +2,7 @@
 -- Assumes nothing.
 use Prim.Native.Nat.{ℕ, zero, suc, _+_, _*_, _%_, _≤_, _<_}
 use mathlib.Core.Path.{_≡_}
-use mathlib.Core.Bool.{cond}
+use mathlib.Core.Bool.{_&&_, cond}
 use lib.Dec.{eqb}
 use mathlib.Core.List.{List, [], map}
 use lib.ListN.{length}
@@ -72,9 +72,9 @@ endsOf AtEnd = T.at-end
 endsOf BeforeEnd = T.before-end
 endsOf Within = T.within
 
--- the number and the place of each answer
+-- the number and the place of each answer: both 0 where there is no fault
 abbrev pub verdictOf : Verdict → T.Verdict
-verdictOf v = cond (eqb (v .number) 0) T.fine (T.fault (v .number) (v .place))
+verdictOf v = cond (eqb (v .number) 0 && eqb (v .place) 0) T.fine (T.fault (v .number) (v .place))
 
 -- whole records at index i within the table; at least one of them
 pub record Row (i : ℕ) (p : List ℕ) : Type 0 where

@@ -10,12 +10,12 @@ ghost use mathlib.Core.Bool.{_&&_};
 ghost use lib.Dec.{leb};
 ghost use Prim.Native.Nat.{_+_, _*_, _≤_, _<_};
 ghost use lib.ListN.{length, getD};
-ghost use Rattle.rules.specs.Table.{kindOf, isOf, endsFit, spanRight, nameRight, valueRight, recordFault, checkE, checkRows, checkSpawns, namesNone, procedures, records, lengthFits, check, _else_};
+ghost use Rattle.rules.specs.Table.{kindOf, isOf, endsFit, spanRight, nameRight, valueRight, recordFault, checkE, checkRows, checkSpawns, namesNone, procedures, records, lengthFits, check};
 ghost use Rattle.rules.specs.Fields.{signed};
 ghost use lib.IntN.{natAbs};
 ghost use Rattle.table.specs.Check.{nameLeasts, nameMosts, spanLeasts, spanMosts, codeOf, codes, enclosing, valueMosts, sortOf, endsOf, verdictOf, Part, Row, OfRow, headOf, body, bodyAt, Parted};
 
-// What checking finds: the number and the place of a fault, or the number 0 where there is none.
+// What checking finds: the number and the place of a fault, or 0 and 0 where there is none.
 pub struct Verdict {
     pub number: u32,
     pub place: u32,
@@ -452,17 +452,10 @@ pub fn check_table(table: &[u8]) -> Verdict
     }
     let rows = check_rows(table, Sort::Procedure, 0, 17);
     let spawns = check_spawns(table, procedures_in(table));
-    earlier(rows, spawns)
-}
-
-// The first verdict where it is a fault, else the second.
-fn earlier(first: Verdict, second: Verdict) -> Verdict
-    ensures { λ r. ⌜ verdictOf r ≡ (verdictOf first else verdictOf second) ⌝ }
-{
-    if first.number != 0 {
-        return first;
+    if rows.number != 0 {
+        return rows;
     }
-    second
+    spawns
 }
 
 fn length_fits(len: usize) -> bool

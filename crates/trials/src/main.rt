@@ -1,9 +1,11 @@
-// Calls start and run on cases from standard input and prints what they return, a line each, with a checksum of each buffer that they may write.
-// A case is a record of 8 bytes (byte 0: what is called; bytes 4-7: the budget) and its buffers: table, state and, for run, log.
+// Calls start, run and print on cases from standard input and prints what they return, a line each, with a checksum of each buffer that they may
+// write. A case is a record of 8 bytes (byte 0: what is called; bytes 4-7: the budget) and its buffers: table and, but for print, state and, for
+// run, log.
 // A buffer is a record of 8 bytes (bytes 2-3: how many bytes follow; bytes 4-7: the buffer's length) and these bytes; from there on each byte is as
 // the one 8 before it, so that a long row of one record is short.
 use libc::STDIN_FILENO;
 use libc::STDOUT_FILENO;
+use print::print_recipe;
 use runner::run;
 use runner::start;
 use table::record::span_of;
@@ -114,11 +116,22 @@ fn try_on(table: &[u8], state: &mut [u8], budget: u32, log: &mut [u8]) {
     print_last(state);
 }
 
+// The length of the text and its checksum.
+fn try_print(table: &[u8]) {
+    let mut out = [0u8; 131072];
+    let n = print_recipe(table, &mut out);
+    print(n as u64);
+    print_last(&out[..n]);
+}
+
 fn try_case(what: u8, budget: u32) {
     let mut table = io::large_buffer();
     let mut state = io::buffer();
     let mut log = io::buffer();
     let t = read_buffer(&mut table);
+    if what == 3 {
+        return try_print(&table[..t]);
+    }
     let s = read_buffer(&mut state);
     if what == 0 {
         return try_start(&table[..t], &mut state[..s]);

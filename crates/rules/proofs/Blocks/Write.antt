@@ -1,4 +1,4 @@
--- A state that fits: its block is accepted, is of bytes, and says that state.
+-- A state that fits: its block is accepted and says that state.
 -- Assumes nothing.
 use Prim.Native.Nat.{ℕ, _+_, _-_, _*_, _≤_, _<_}
 use mathlib.Core.Path.{_≡_, refl, sym, ap, _∙_}
@@ -11,16 +11,15 @@ use lib.IntN.{pos}
 use lib.ListN.{length, getD, take, drop, length-append, length-drop, List·getD-eq-default}
 use lib.Seq.{take-append-le, drop-append-le, drop-append-add}
 use borrow.Author.Tests.{eq-eqb}
-use Rattle.rules.specs.Fields.{word, signed, bits, bytes2, bytes4}
+use Rattle.rules.specs.Fields.{word, signed, bits, bytes4}
 use Rattle.rules.specs.Values.{inRange}
 use Rattle.rules.specs.Recipe.{Recipe}
 use Rattle.rules.specs.Places.{isPlace}
 use Rattle.rules.specs.State.{Task, Store, State, live, liveTasks, tab, joined, issuedIn, liveIn, activeIn, numberIn, placeIn, taskIn, variablesIn, stateOf, readBlock, isActive, headRow, taskRow, noTask, writeBlock}
-use Rattle.rules.specs.Fairness.{Every}
-use Rattle.rules.proofs.Answers.{joined-length, block-length}
+use Rattle.rules.proofs.Answers.{block-length}
 use Rattle.rules.proofs.Fit.{TaskFit, Fit}
-use Rattle.rules.proofs.Lists.{every-append, every-getD, every-map, every-joined, tab-is, joined-part}
-use Rattle.rules.proofs.Numbers.{signed-bits, bits-below, half-bytes2, word-bytes4, half-within, word-within, Byte, bytes2-fit, bytes4-fit}
+use Rattle.rules.proofs.Lists.{every-getD, every-map, tab-is, joined-length, joined-part}
+use Rattle.rules.proofs.Numbers.{signed-bits, half-bytes2, word-bytes4, half-within, word-within}
 use Rattle.rules.proofs.Blocks.Accepted.{HeadFit, UsedFit, UnusedFit, Accepted}
 use Rattle.rules.proofs.Blocks.Counts.{none-before, unlike-many, no-more}
 
@@ -122,10 +121,6 @@ state-again : (s : Store) (a : Option (Task ℕ)) (q : List (Task ℕ)) → stat
 state-again s none q = refl
 state-again s (some t) q = refl
 
-active-below : (a : Option (Task ℕ)) → isActive a ≤ 1
-active-below none = omega arith
-active-below (some t) = omega arith
-
 one-active : (a : Option (Task ℕ)) (q : List (Task ℕ)) → isActive a ≤ cond (eqb (length (liveTasks a q)) 0) 0 1
 one-active none q = omega arith
 one-active (some t) q = rw (eqb·suc-zero (length q)) (omega arith)
@@ -135,13 +130,6 @@ pub record Held (t : Task ℕ) : Type 0 where
   pub number-fits : t .number < 65536
   pub place-fits : t .place < 65536
   pub parameter-fits : inRange (t .parameter) ≡ true
-
-row-bytes : (t : Task ℕ) → Held t → Every Byte (taskRow t)
-unfolding taskRow
-row-bytes t h =
-    every-append Byte (bytes2 (t .number) ++ bytes2 (t .place)) (bytes4 (bits (t .parameter)))
-    (every-append Byte (bytes2 (t .number)) (bytes2 (t .place)) (bytes2-fit (t .number) (h .number-fits)) (bytes2-fit (t .place) (h .place-fits)))
-    (bytes4-fit (bits (t .parameter)) (bits-below (t .parameter) (h .parameter-fits)))
 
 module _ (r : Recipe) (c : State) (f : Fit r c) where
   held : (i : ℕ) → Held (getD (live c) i noTask)
@@ -165,16 +153,6 @@ module _ (r : Recipe) (c : State) (f : Fit r c) where
   pub read-again : readBlock (writeBlock c) ≡ c
   unfolding readBlock
   read-again = rw (issued-again c, active-again c, live-again c, tasks-again, variables-again) (state-again (c .store) (c .active) (c .queue))
-
-  pub written-bytes : Every Byte (writeBlock c)
-  unfolding writeBlock headRow
-  written-bytes =
-      let issued = f .store-fits .issued-fits in
-      let few = f .few in
-      let one = active-below (c .active) in
-      every-append Byte (headRow c ++ rows c) (values c)
-      (every-append Byte (headRow c) (rows c) (omega arith) (every-joined Byte 32 _ (λ i. row-bytes (getD (live c) i noTask) (held i))))
-      (every-joined Byte 64 _ (λ j. let z = getD (c .store .variables) j (pos 0) in bytes4-fit (bits z) (bits-below z (f .store-fits .variables-fit j))))
 
   head-again : HeadFit (writeBlock c)
   head-again =

@@ -133,13 +133,13 @@ whole-of {p = p} g r =
     let e : 8 + 8 * spanOf p ≡ length p = eqb-true _ _ (right-ends g) in
     r .spelt ∙ ap (λ (x : List ℕ). encodeE (r .expr) ++ x) (nil-of-length (after p) (omega (arith, length-after p))) ∙ append-nil (encodeE (r .expr))
 
-data Four (k : ℕ) : Type 0 where
+pub data Four (k : ℕ) : Type 0 where
   is9 : k ≡ 9 → Four k
   is10 : k ≡ 10 → Four k
   is11 : k ≡ 11 → Four k
   is12 : k ≡ 12 → Four k
 
-four : (k : ℕ) → isOf expression k ≡ true → Four k
+pub four : (k : ℕ) → isOf expression k ≡ true → Four k
 four k h = go (ℕ-discrete k 9) (ℕ-discrete k 10) (ℕ-discrete k 11)
   where
     bounds : (9 ≤ k) × (k ≤ 12)

@@ -141,7 +141,7 @@ pub row-empty : (s : Sort) (d i : ℕ) (p : List ℕ) → length p ≡ 0 → che
 row-empty s d i p h = unfold-row s d i p ∙ first-empty checkRows s d i p h
 
 module _ (s : Sort) (d i : ℕ) (p : List ℕ) (some : ¬ (length p ≡ 0)) where
-  row-some : checkRows s d i p ≡ unless (recordFault s within p) i (levels checkRows s d i p)
+  pub row-some : checkRows s d i p ≡ unless (recordFault s within p) i (levels checkRows s d i p)
   unfolding firstRow
   row-some = rw (unfold-row s d i p, ne-eqb (length p) 0 some)
 

@@ -17,6 +17,7 @@ use Rattle.rules.proofs.Grammar.Reading.{recipe-of}
 use Rattle.rules.proofs.Grammar.Passing.{procedures-pass}
 use Rattle.rules.proofs.Grammar.Spawns.{count-procedures, spawns-pass, passed-spawns}
 use Rattle.rules.proofs.Grammar.Accepting.{readsR}
+use Rattle.rules.proofs.Grammar.Bytes.{table-bytes}
 use Rattle.rules.proofs.Verdicts.{and-true, else-fine}
 
 records-encode : (r : Recipe) → records (encode r) ≡ sizeR r
@@ -71,8 +72,15 @@ pub grammar : (t : List ℕ) → Bytes t → Grammar t
 grammar t b =
     record {
       accepted = (check-reads t b, λ x. ap check (x .1 .spelt) ∙ encode-passes (x .0) (x .1 .within));
-      one-recipe = λ r r′ s s′. sym (recipe-of r (s .within)) ∙ ap recipeOf (sym (s .spelt) ∙ s′ .spelt) ∙ recipe-of r′ (s′ .within);
+      spells = accepted-spells t b;
+      one-recipe = λ r s. sym (recipe-of r (s .within)) ∙ ap recipeOf (sym (s .spelt));
     }
 
 pub one-table : (r : Recipe) → Within r → OneTable r
-one-table r w = record { table = encode r; accepted = encode-passes r w; spells = record { spelt = refl; within = w }; only = λ t s. s .spelt }
+one-table r w =
+    record {
+      bytes = table-bytes r w;
+      accepted = encode-passes r w;
+      reads = recipe-of r w;
+      only = λ t b e h. accepted-spells t b e .spelt ∙ ap encode h;
+    }

@@ -7,30 +7,45 @@ use mathlib.Core.Option.{Option, none, some}
 use mathlib.Core.List.{List, [], _∷_, _++_, append-assoc, tail-eq-of-cons-eq}
 use native.Mathlib.Omega.{arith}
 use lib.ListN.{length}
-use Rattle.rules.specs.Scheduler.{Readiness, ready, waits-for, Rules, Stay, on, back, over, Act, halts, does, count, Config, readiness, canGo, anyGo, Next, finish, jam, bar, goes, tryOf, jamOr, nextAct, stay, next, Ending, finished, paused, stuck, logfull, limit, stops, test}
+use Rattle.rules.specs.Scheduler.{Readiness, ready, waits-for, Rules, Limit, Stay, on, back, over, Act, halts, does, count, Config, readiness, canGo, anyGo, Next, finish, jam, bar, goes, tryOf, jamOr, nextAct, stay, next, Ending, finished, paused, stuck, logfull, limit, stops, test}
 use Rattle.rules.specs.Moments.{Call, call, budgets, Does, made, ends, Moment, trace}
 use Rattle.rules.specs.Fairness.{Every, tried, until, stepBy, longestOf, longest, Free, Stuck, TakenWithin}
 use Rattle.rules.proofs.Scheduling.Lawful.{ready-when}
 use Rattle.rules.proofs.Scheduling.Induction.{endM, stepM, idleC, busyC, trace-cases}
 
 module _ (R : Rules) where
-  -- why a call ends
-  abbrev pub Cause : ℕ → Next R → Ending → Type 0
-  Cause b y finished = y ≡ finish
-  Cause b y paused = b ≡ 0
-  Cause b y stuck = y ≡ jam
-  Cause b y logfull = Unit {0}
-  Cause b y (limit k) = y ≡ bar k
+  -- the reason of each ending, with so much budget and room left
+  abbrev pub Reason : (b r : ℕ) → Next R → Ending → Type 0
+  Reason b r y finished = y ≡ finish
+  Reason b r y paused = (b ≡ 0) × (¬ (y ≡ finish)) × (¬ (y ≡ jam))
+  Reason b r y stuck = y ≡ jam
+  Reason b r y logfull = (1 ≤ b) × (r ≡ 0) × ((x : R .Event) × (c : Config R) × (y ≡ goes (some x) c))
+  Reason b r y (limit k) = (1 ≤ b) × (y ≡ bar k)
 
-  pub cause : (b r : ℕ) (y : Next R) (e : Ending) → test R b r y ≡ stops e → Cause b y e
-  cause b r finish e p = let q : finished ≡ e = cc in rw (← q) refl
-  cause b r jam e p = let q : stuck ≡ e = cc in rw (← q) refl
-  cause zero r (bar k) e p = let q : paused ≡ e = cc in rw (← q) refl
-  cause (suc b) r (bar k) e p = let q : limit k ≡ e = cc in rw (← q) refl
-  cause zero r (goes x c) e p = let q : paused ≡ e = cc in rw (← q) refl
-  cause (suc b) r (goes none c) e p = absurd (let z : _≡_ {A = ℕ} 0 1 = cc in omega arith)
-  cause (suc b) zero (goes (some x) c) e p = let q : logfull ≡ e = cc in rw (← q) tt
-  cause (suc b) (suc r) (goes (some x) c) e p = absurd (let z : _≡_ {A = ℕ} 0 1 = cc in omega arith)
+  -- a call ends so exactly by its reason
+  pub reason : (b r : ℕ) (y : Next R) (e : Ending) → test R b r y ≡ stops e → Reason b r y e
+  reason b r finish e p = let q : finished ≡ e = cc in rw (← q) refl
+  reason b r jam e p = let q : stuck ≡ e = cc in rw (← q) refl
+  reason zero r (bar k) e p = let q : paused ≡ e = cc in rw (← q) (refl, (λ z. let w : _≡_ {A = ℕ} 0 1 = cc in omega arith), (λ z. let w : _≡_ {A = ℕ} 0 1 = cc in omega arith))
+  reason (suc b) r (bar k) e p = let q : limit k ≡ e = cc in rw (← q) (omega arith, refl)
+  reason zero r (goes x c) e p = let q : paused ≡ e = cc in rw (← q) (refl, (λ z. let w : _≡_ {A = ℕ} 0 1 = cc in omega arith), (λ z. let w : _≡_ {A = ℕ} 0 1 = cc in omega arith))
+  reason (suc b) r (goes none c) e p = absurd (let z : _≡_ {A = ℕ} 0 1 = cc in omega arith)
+  reason (suc b) zero (goes (some x) c) e p = let q : logfull ≡ e = cc in rw (← q) (omega arith, refl, (x, c, refl))
+  reason (suc b) (suc r) (goes (some x) c) e p = absurd (let z : _≡_ {A = ℕ} 0 1 = cc in omega arith)
+
+  pub ends-by : (b r : ℕ) (y : Next R) (e : Ending) → Reason b r y e → test R b r y ≡ stops e
+  ends-by b r y finished h = rw h refl
+  ends-by b r y stuck h = rw h refl
+  ends-by (suc b) r y paused h = absurd (omega (arith, h .0))
+  ends-by zero r finish paused h = absurd (h .1 refl)
+  ends-by zero r jam paused h = absurd (h .2 refl)
+  ends-by zero r (bar k) paused h = refl
+  ends-by zero r (goes x c) paused h = refl
+  ends-by zero r y logfull h = absurd (omega (arith, h .0))
+  ends-by (suc b) zero y logfull h = rw (h .2 .2) refl
+  ends-by (suc b) (suc r) y logfull h = absurd (omega (arith, h .1))
+  ends-by zero r y (limit k) h = absurd (omega (arith, h .0))
+  ends-by (suc b) r y (limit k) h = rw (h .1) refl
 
   none-go : (c : Config R) (q : List (R .Task)) → anyGo R c q ≡ false → Every (λ t. canGo R c t ≡ false) q
   none-go c [] h = tt
@@ -81,18 +96,30 @@ module _ (R : Rules) where
       go s none (t ∷ q) h = rw (go-none (idleC R s (t ∷ q)) (t ∷ q) (h .none-ready)) refl
       go s (some t) q h = absurd (let p : some t ≡ none = h .idle in let z : _≡_ {A = ℕ} 0 1 = cc in omega arith)
 
-  pub done-empty : (c : Config R) → next R c ≡ finish → c .queue ≡ []
-  done-empty c = go (c .store) (c .active) (c .queue)
+  pub idle-no-bar : (s : R .Store) (t : R .Task) (q : List (R .Task)) (k : Limit) → ¬ (next R (idleC R s (t ∷ q)) ≡ bar k)
+  idle-no-bar s t q k = go (anyGo R (idleC R s (t ∷ q)) (t ∷ q)) (readiness R (idleC R s (t ∷ q)) t)
+    where
+      go : (u : Bool) (v : Readiness) → ¬ (jamOr R u (tryOf R v (idleC R s (t ∷ q)) t q) ≡ bar k)
+      go true ready e = let z : _≡_ {A = ℕ} 0 1 = cc in omega arith
+      go true (waits-for w) e = let z : _≡_ {A = ℕ} 0 1 = cc in omega arith
+      go false v e = let z : _≡_ {A = ℕ} 0 1 = cc in omega arith
+
+  -- "finished" is said exactly of a configuration without tasks
+  pub finish-empty : (c : Config R) → next R c ≡ finish → (c .active ≡ none) × (c .queue ≡ [])
+  finish-empty c = go (c .store) (c .active) (c .queue)
     where
       try-not-done : (u : Bool) (v : Readiness) (c : Config R) (t : R .Task) (q : List (R .Task)) → ¬ (jamOr R u (tryOf R v c t q) ≡ finish)
       try-not-done true ready c t q e = let z : _≡_ {A = ℕ} 0 1 = cc in omega arith
       try-not-done true (waits-for w) c t q e = let z : _≡_ {A = ℕ} 0 1 = cc in omega arith
       try-not-done false v c t q e = let z : _≡_ {A = ℕ} 0 1 = cc in omega arith
 
-      go : (s : R .Store) (a : Option (R .Task)) (q : List (R .Task)) → next R (record { store = s; active = a; queue = q }) ≡ finish → q ≡ []
-      go s none [] h = refl
+      go : (s : R .Store) (a : Option (R .Task)) (q : List (R .Task)) → next R (record { store = s; active = a; queue = q }) ≡ finish → (a ≡ none) × (q ≡ [])
+      go s none [] h = (refl, refl)
       go s none (t ∷ q) h = absurd (try-not-done (anyGo R (idleC R s (t ∷ q)) (t ∷ q)) (readiness R (idleC R s (t ∷ q)) t) (idleC R s (t ∷ q)) t q h)
       go s (some t) q h = absurd (act-not-done q (R .act s q t) h)
+
+  pub empty-finish : (c : Config R) → c .active ≡ none → c .queue ≡ [] → next R c ≡ finish
+  empty-finish c a q = rw (a, q) refl
 
   -- what a member of an appended list has
   pub every-mid : {A : Type 0} (P : A → Type 0) (xs : List A) (y : A) (ys : List A) → Every P (xs ++ (y ∷ ys)) → P y
@@ -144,11 +171,11 @@ module _ (R : Rules) where
 
   boundEnd : (c : Config R) (b r : ℕ) (cs : List Call) (e : Ending) (ms : List (Moment R)) → test R b r (next R c) ≡ stops e → BoundP c cs ms → BoundP c (call b r ∷ cs) (endM R c b r cs e ∷ ms)
   unfolding BoundP
-  boundEnd c b r cs e ms p ih d b′ A B t q n w f l h = go e (cause b r (next R c) e p) (f .0)
+  boundEnd c b r cs e ms p ih d b′ A B t q n w f l h = go e (reason b r (next R c) e p) (f .0)
     where
-      go : (e : Ending) → Cause b (next R c) e → Free R (ends e) → TakenWithin R (need (c .active) d (length A) b′ + 1) t (endM R c b r cs e ∷ ms)
-      go finished z y = absurd (not-nil A t B (sym q ∙ done-empty c z))
-      go paused z y = later (endM R c b r cs paused) ms (need (c .active) d (length A) b′ + 1) (need (c .active) d (length A) b′ + 1) t refl (omega arith) (ih d b′ A B t q n (w .1) (f .1) l (omega arith))
+      go : (e : Ending) → Reason b r (next R c) e → Free R (ends e) → TakenWithin R (need (c .active) d (length A) b′ + 1) t (endM R c b r cs e ∷ ms)
+      go finished z y = absurd (not-nil A t B (sym q ∙ finish-empty c z .1))
+      go paused z y = later (endM R c b r cs paused) ms (need (c .active) d (length A) b′ + 1) (need (c .active) d (length A) b′ + 1) t refl (omega arith) (ih d b′ A B t q n (w .1) (f .1) l (omega (arith, z .0)))
       go stuck z y = absurd (let v = jam-stuck c z in let g = w .0 (v .idle) in let g′ = every-mid (λ u. canGo R c u ≡ false) A t B (subst (λ l. Every (λ u. canGo R c u ≡ false) l) q (v .none-ready)) in (let z : _≡_ {A = ℕ} 0 1 = cc in omega arith))
       go logfull z y = absurd (y tt)
       go (limit k) z y = absurd (y tt)

@@ -14,7 +14,7 @@ use Rattle.rules.proofs.Scheduling.Bound.{not-nil, need, BoundP, bound-
 use Rattle.rules.proofs.Scheduling.Along.{suffix, valid-at}
 use Rattle.rules.proofs.Scheduling.Turns.{turns, order, alone}
 use Rattle.rules.proofs.Scheduling.Stuck.{stuck-for-ever, stuck-exactly}
-use Rattle.rules.proofs.Scheduling.Whole.{linked, steps-add, logs-join}
+use Rattle.rules.proofs.Scheduling.Whole.{linked, steps-add, logs-join, endings-said}
 
 module _ (R : Rules) where
   module _ (L : Lawful R) where
@@ -36,6 +36,7 @@ module _ (R : Rules) where
       chain = refl;
       counts = refl;
       logs = refl;
+      numbers = refl;
       from-then = λ pre post m e. absurd (not-nil R pre m post (sym e));
       round = λ n pre mid post x y e. absurd (not-nil R pre x (mid ++ (y ∷ post)) (sym e));
       order = λ pre rest mid post m y A B t e. absurd (not-nil R pre m rest (sym e));
@@ -43,11 +44,12 @@ module _ (R : Rules) where
       stops-stuck = λ pre post m e. absurd (not-nil R pre m post (sym e));
       never-freed = λ pre post m e. absurd (not-nil R pre m post (sym e));
     }
-    demand-3 c (refused ∷ cs) v = let d = demand-3 c cs v in record { chain = d .chain; counts = d .counts; logs = d .logs; from-then = d .from-then; round = d .round; order = d .order; bound = d .bound; stops-stuck = d .stops-stuck; never-freed = d .never-freed }
+    demand-3 c (refused ∷ cs) v = let d = demand-3 c cs v in record { chain = d .chain; counts = d .counts; logs = d .logs; numbers = d .numbers; from-then = d .from-then; round = d .round; order = d .order; bound = d .bound; stops-stuck = d .stops-stuck; never-freed = d .never-freed }
     demand-3 c (call b r ∷ cs) v = record {
       chain = linked R c (call b r ∷ cs);
       counts = steps-add R c (call b r ∷ cs);
       logs = logs-join R c (call b r ∷ cs);
+      numbers = endings-said R c (call b r ∷ cs);
       from-then = suffix R c (call b r ∷ cs);
       round = turns R L c (call b r ∷ cs) v;
       order = order R L c (call b r ∷ cs) v;

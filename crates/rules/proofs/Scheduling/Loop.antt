@@ -21,13 +21,13 @@ module _ (R : Rules) where
   at-start b r c = record { counted = omega arith; logged = refl; ends-as = refl; leaves = refl }
 
   pub at-step : (u : Run R) (n : ℕ) (l : List (R .Event)) (c c′ : Config R) (x : Option (R .Event)) (b r : ℕ) → next R c ≡ goes x c′ → size R x ≤ r
-      → At u n l c (suc b) r → At u (n + 1) (l ++ logOf R x) c′ b (r - size R x)
+      → At u n l c (suc b) r → At u (n + 1) (l ++ logOf x) c′ b (r - size R x)
   at-step u n l c c′ x b r h k a =
       let e = run-step R c b r x c′ h k in
       let v = run R b (r - size R x) c′ in
       record {
         counted = omega (arith, a .counted, ap (λ w. stepsOf R w) e);
-        logged = a .logged ∙ (ap (λ w. l ++ log R w) e ∙ sym (append-assoc l (logOf R x) (log R v)));
+        logged = a .logged ∙ (ap (λ w. l ++ log R w) e ∙ sym (append-assoc l (logOf x) (log R v)));
         ends-as = a .ends-as ∙ ap (λ w. ending R w) e;
         leaves = a .leaves ∙ ap (λ w. last R w) e;
       }

@@ -14,7 +14,7 @@ use Rattle.rules.specs.Moments.{Call, Does, made, ends, Moment, trace}
 use Rattle.rules.specs.Fairness.{Every, Stuck, second, pull, afterwards, tryFirst, Turned, AllTurned}
 use Rattle.rules.proofs.Scheduling.Lawful.{waits-when}
 use Rattle.rules.proofs.Scheduling.Induction.{idleC, trace-ind}
-use Rattle.rules.proofs.Scheduling.Bound.{not-nil, every-mid, count-append, cause, jam-stuck, stuck-jam}
+use Rattle.rules.proofs.Scheduling.Bound.{not-nil, every-mid, count-append, reason, jam-stuck, stuck-jam}
 use Rattle.rules.proofs.Lists.{every-append, every-map}
 
 module _ (R : Rules) where
@@ -74,7 +74,7 @@ module _ (R : Rules) where
   StuckP c cs ms = Every (λ m. (m .what ≡ ends stuck) ↔ Stuck R (m .at)) ms
 
   stuckEnd : (c : Config R) (b r : ℕ) (e : Ending) → test R b r (next R c) ≡ stops e → (_≡_ {A = Does R} (ends e) (ends stuck)) ↔ Stuck R c
-  stuckEnd c b r e h = (λ p. let q : e ≡ stuck = cc in jam-stuck R c (cause R b r (next R c) stuck (rw q at h)), λ s. let k : test R b r (next R c) ≡ stops stuck = rw (stuck-jam R c s) refl in cc)
+  stuckEnd c b r e h = (λ p. let q : e ≡ stuck = cc in jam-stuck R c (reason R b r (next R c) stuck (rw q at h)), λ s. let k : test R b r (next R c) ≡ stops stuck = rw (stuck-jam R c s) refl in cc)
 
   stuckStep : (c : Config R) (x : Option (R .Event)) (c′ : Config R) → next R c ≡ goes x c′ → (_≡_ {A = Does R} (made x) (ends stuck)) ↔ Stuck R c
   stuckStep c x c′ h = (λ p. absurd (let z : _≡_ {A = ℕ} 0 1 = cc in omega arith), λ s. absurd (let k = stuck-jam R c s in let z : _≡_ {A = ℕ} 0 1 = cc in omega arith))

@@ -1,17 +1,15 @@
 -- A list of calls is one chain of steps; a paused run that is continued equals one run.
 -- Assumes nothing.
 use Prim.Native.Nat.{ℕ, zero, suc, _+_, _-_, _≤_}
-use mathlib.Core.Path.{_≡_, refl, sym, ap, _∙_, subst}
-use mathlib.Core.Logic.{_↔_}
+use mathlib.Core.Path.{_≡_, refl, sym, ap, _∙_}
 use mathlib.Core.Option.{Option, none, some}
 use mathlib.Core.List.{List, [], _∷_, _++_, append-assoc}
 use native.Mathlib.Omega.{arith}
 use lib.ListN.{length}
-use Rattle.rules.specs.Scheduler.{Rules, Config, Next, finish, jam, bar, goes, next, Ending, stuck, logfull, What, stops, makes, test, size, Run, end, step, run, ending, last, stepsOf, log, logOf}
+use Rattle.rules.specs.Scheduler.{Rules, Config, Next, finish, jam, bar, goes, next, Ending, logfull, What, stops, makes, test, size, Run, end, step, run, ending, last, stepsOf, log, logOf}
 use Rattle.rules.specs.Moments.{Call, refused, call, Moment, moments, trace, answers, finally}
-use Rattle.rules.specs.Fairness.{steps, Stuck, allSteps, allLogs, records, Linked, join, OneRun}
+use Rattle.rules.specs.Fairness.{steps, allSteps, allLogs, allEndings, records, endings, Linked, join, OneRun}
 use Rattle.rules.proofs.Scheduling.Induction.{test-makes, trace-ind}
-use Rattle.rules.proofs.Scheduling.Bound.{cause, jam-stuck, stuck-jam}
 use Rattle.rules.proofs.Scheduling.Along.{test-goes}
 
 module _ (R : Rules) where
@@ -46,14 +44,23 @@ module _ (R : Rules) where
 
   records-moments : (b r : ℕ) (cs : List Call) (u : Run R) (ms : List (Moment R)) → records R (moments R b r cs u ++ ms) ≡ log R u ++ records R ms
   records-moments b r cs (end e c) ms = refl
-  records-moments b r cs (step c x u) ms = rw (records-moments (b - 1) (r - size R x) cs u ms) (sym (append-assoc (logOf R x) (log R u) (records R ms)))
+  records-moments b r cs (step c x u) ms = rw (records-moments (b - 1) (r - size R x) cs u ms) (sym (append-assoc (logOf x) (log R u) (records R ms)))
 
   pub logs-join : (c : Config R) (cs : List Call) → allLogs R (answers R c cs) ≡ records R (trace R c cs)
   logs-join c [] = refl
   logs-join c (refused ∷ cs) = logs-join c cs
   logs-join c (call b r ∷ cs) = rw (records-moments b r cs (run R b r c), logs-join (last R (run R b r c)) cs) refl
 
-  length-log : (x : Option (R .Event)) (l : List (R .Event)) → length (logOf R x ++ l) ≡ size R x + length l
+  endings-moments : (b r : ℕ) (cs : List Call) (u : Run R) (ms : List (Moment R)) → endings R (moments R b r cs u ++ ms) ≡ ending R u ∷ endings R ms
+  endings-moments b r cs (end e c) ms = refl
+  endings-moments b r cs (step c x u) ms = endings-moments (b - 1) (r - size R x) cs u ms
+
+  pub endings-said : (c : Config R) (cs : List Call) → allEndings R (answers R c cs) ≡ endings R (trace R c cs)
+  endings-said c [] = refl
+  endings-said c (refused ∷ cs) = endings-said c cs
+  endings-said c (call b r ∷ cs) = rw (endings-moments b r cs (run R b r c), endings-said (last R (run R b r c)) cs) refl
+
+  pub length-log : (x : Option (R .Event)) (l : List (R .Event)) → length (logOf x ++ l) ≡ size R x + length l
   length-log none l = omega arith
   length-log (some x) l = omega arith
 
@@ -68,34 +75,34 @@ module _ (R : Rules) where
   test-room (suc b) (suc r) r′ (goes (some x) c) e h n = absurd (let z : _≡_ {A = ℕ} 0 1 = cc in omega arith)
 
   -- by what the test says: a call ends at once, or makes a step
-  pub by-test : (P : ℕ → Config R → Run R → Type 0)
-      → ((b r : ℕ) (c : Config R) (e : Ending) → test R b r (next R c) ≡ stops e → P b c (end e c))
-      → ((b r : ℕ) (c : Config R) (x : Option (R .Event)) (c′ : Config R) → next R c ≡ goes x c′ → size R x ≤ r → P b c′ (run R b (r - size R x) c′) → P (suc b) c (step c x (run R b (r - size R x) c′)))
-      → (b r : ℕ) (c : Config R) → P b c (run R b r c)
+  pub by-test : (P : (b r : ℕ) → Config R → Run R → Type 0)
+      → ((b r : ℕ) (c : Config R) (e : Ending) → test R b r (next R c) ≡ stops e → P b r c (end e c))
+      → ((b r : ℕ) (c : Config R) (x : Option (R .Event)) (c′ : Config R) → next R c ≡ goes x c′ → size R x ≤ r → P b (r - size R x) c′ (run R b (r - size R x) c′) → P (suc b) r c (step c x (run R b (r - size R x) c′)))
+      → (b r : ℕ) (c : Config R) → P b r c (run R b r c)
   by-test P f g zero r c = go (test R zero r (next R c)) refl
     where
-      go : (w : What R) → test R zero r (next R c) ≡ w → P zero c (run R zero r c)
+      go : (w : What R) → test R zero r (next R c) ≡ w → P zero r c (run R zero r c)
       go (stops e) h = rw (run-end c zero r e h) (f zero r c e h)
       go (makes x c′) h = absurd (omega (arith, (test-makes R zero r (next R c) x c′ h) .2))
   by-test P f g (suc b) r c = go (test R (suc b) r (next R c)) refl (λ r′ c′. by-test P f g b r′ c′)
     where
-      go : (w : What R) → test R (suc b) r (next R c) ≡ w → ((r′ : ℕ) (c′ : Config R) → P b c′ (run R b r′ c′)) → P (suc b) c (run R (suc b) r c)
+      go : (w : What R) → test R (suc b) r (next R c) ≡ w → ((r′ : ℕ) (c′ : Config R) → P b r′ c′ (run R b r′ c′)) → P (suc b) r c (run R (suc b) r c)
       go (stops e) h ih = rw (run-end c (suc b) r e h) (f (suc b) r c e h)
       go (makes x c′) h ih = let (q, l, _) = test-makes R (suc b) r (next R c) x c′ h in rw (run-step c b r x c′ q l) (g b r c x c′ q l (ih (r - size R x) c′))
 
-  RoomP : ℕ → Config R → Run R → Type 0
-  RoomP b c u = (room : ℕ) → ¬ (ending R u ≡ logfull) → length (log R u) ≤ room → run R b room c ≡ u
+  RoomP : (b r : ℕ) → Config R → Run R → Type 0
+  RoomP b r c u = (room : ℕ) → ¬ (ending R u ≡ logfull) → length (log R u) ≤ room → run R b room c ≡ u
 
   -- a log that does not fill is as good as a longer one
-  room-free : (b r : ℕ) (c : Config R) → RoomP b c (run R b r c)
+  room-free : (b r : ℕ) (c : Config R) → RoomP b r c (run R b r c)
   unfolding RoomP
   room-free = by-test RoomP
       (λ b r c e h room n l. run-end c b room e (test-room b r room (next R c) e h n))
       (λ b r c x c′ h k ih room n l. let a = length-log x (log R (run R b (r - size R x) c′)) in
       run-step c b room x c′ h (omega arith) ∙ ap (λ u. step c x u) (ih (room - size R x) n (omega arith)))
 
-  ContP : ℕ → ℕ → ℕ → Config R → Run R → Type 0
-  ContP b′ r′ b c u = (room : ℕ) → ¬ (ending R (run R b′ r′ (last R u)) ≡ logfull) → length (log R u) + length (log R (run R b′ r′ (last R u))) ≤ room
+  ContP : (b′ r′ b r : ℕ) → Config R → Run R → Type 0
+  ContP b′ r′ b r c u = (room : ℕ) → ¬ (ending R (run R b′ r′ (last R u)) ≡ logfull) → length (log R u) + length (log R (run R b′ r′ (last R u))) ≤ room
       → run R (stepsOf R u + b′) room c ≡ join R u (run R b′ r′ (last R u))
 
   -- A call continued by a second, whose log does not fill, is one call with the steps of the first and the budget of the second, and a log that holds both.
@@ -122,7 +129,7 @@ module _ (R : Rules) where
 
   join-log : (u v : Run R) → log R (join R u v) ≡ log R u ++ log R v
   join-log (end e c) v = refl
-  join-log (step c x u) v = rw (join-log u v) (sym (append-assoc (logOf R x) (log R u) (log R v)))
+  join-log (step c x u) v = rw (join-log u v) (sym (append-assoc (logOf x) (log R u) (log R v)))
 
   -- Two calls, the second on the state of the first and with a log that does not fill, are one call.
   pub one-run : (c : Config R) (b r b′ r′ room : ℕ) → ¬ (ending R (run R b′ r′ (last R (run R b r c))) ≡ logfull)
@@ -139,26 +146,3 @@ module _ (R : Rules) where
         steps-added = ap (λ w. stepsOf R w) e ∙ join-steps u v;
         logs-joined = ap (λ w. log R w) e ∙ join-log u v;
       }
-
-  -- The same for any one call whose log does not fill.
-  pub one-run-unfilled : (c : Config R) (b r b′ r′ room : ℕ) → ¬ (ending R (run R b′ r′ (last R (run R b r c))) ≡ logfull)
-      → ¬ (ending R (run R (stepsOf R (run R b r c) + b′) room c) ≡ logfull)
-      → OneRun R (run R b r c) (run R b′ r′ (last R (run R b r c))) (run R (stepsOf R (run R b r c) + b′) room c)
-  unfolding RoomP
-  one-run-unfilled c b r b′ r′ room n n′ =
-      let u = run R b r c in
-      let v = run R b′ r′ (last R u) in
-      let w = run R (stepsOf R u + b′) room c in
-      let big = length (log R w) + (length (log R u) + length (log R v)) in
-      let e = room-free (stepsOf R u + b′) room c big n′ (omega arith) in
-      subst (λ z. OneRun R u v z) e (one-run c b r b′ r′ big n (omega arith))
-
-  -- A call says "stuck" exactly when the state that it leaves is stuck.
-  StuckRun : ℕ → Config R → Run R → Type 0
-  StuckRun b c u = (ending R u ≡ stuck) ↔ Stuck R (last R u)
-
-  pub run-stuck : (b r : ℕ) (c : Config R) → (ending R (run R b r c) ≡ stuck) ↔ Stuck R (last R (run R b r c))
-  unfolding StuckRun
-  run-stuck = by-test StuckRun
-      (λ b r c e h. (λ p. jam-stuck R c (cause R b r (next R c) stuck (rw p at h)), λ s. let k : test R b r (next R c) ≡ stops stuck = rw (stuck-jam R c s) refl in cc))
-      (λ b r c x c′ h l ih. ih)

@@ -1,5 +1,7 @@
-use mathlib.Core.Path.{sym, _∙_}
+use mathlib.Core.Path.{refl, sym, _∙_}
 use native.Mathlib.Omega.{arith}
+use Rattle.rules.specs.Answers.{refuses}
+use Rattle.rules.proofs.Answers.{both-number}
 use Rattle.rules.proofs.Verdicts.{else-fine}
 use Rattle.table.proofs.Told.{none-told, fault-told}
 use Rattle.runner.proofs.Calling.{run-refused, run-opened, promised}
@@ -13,7 +15,7 @@ verdict-requires c κs = search needs
 carry-out-requires : tie.Need-carry-out-requires
 carry-out-requires c κs =
     let k = c .before .before .before .before in
-    else-fine _ _ (sym (k .verdict .ensures) ∙ none-told (k .verdict .result) (c .before .before .if1 .left))
+    else-fine _ _ (none-told refuses (k .verdict .result) (k .verdict .ensures) (both-number (k .before .before .before .before .before .args .table .now) (k .before .before .before .before .before .args .state .now)) refl (c .before .before .if1 .left))
 
 same-length : tie.Need-same-length
 same-length c = search needs
@@ -36,7 +38,7 @@ returns-2 : tie.Need-returns-2
 returns-2 c =
     let a = c .before .before .before .before .before .before .before .before .before .before .before .before .before .before .args in
     let k = c .before .before .before .before .before .before .before .before .before in
-    let e = sym (k .verdict .ensures) ∙ none-told (k .verdict .result) (c .before .before .before .before .before .before .before .if1 .left) in
+    let e = none-told refuses (k .verdict .result) (k .verdict .ensures) (both-number (a .table .now) (a .state .now)) refl (c .before .before .before .before .before .before .before .if1 .left) in
     promised (a .table .now) (a .state .now) (a .budget) (a .log .now)
     (λ i. omega (arith, c .before .before .before .before .before .before .before .before .before .before .before .before .before .shared-slice-known .given i)) (λ i. omega (arith, c .before .before .before .before .before .before .before .before .before .before .before .before .slice-known .given i)) _ _ _
     (c .before .before .before .before .carry-out .ensures ∙ run-opened (a .table .now) (a .state .now) (a .budget) (a .log .now) e)

@@ -1,10 +1,10 @@
-use mathlib.Core.Path.{_≡_, sym, ap, _∙_, subst⁻¹}
+use mathlib.Core.Path.{_≡_, refl, sym, ap, _∙_}
 use Rattle.rules.specs.Table.{fine, check}
 use Rattle.rules.specs.State.{writeBlock}
-use Rattle.rules.specs.Answers.{StartAnswers}
-use Rattle.rules.proofs.Answers.{start-answers}
+use Rattle.rules.specs.Answers.{ofTable}
+use Rattle.rules.proofs.Answers.{check-number}
 use Rattle.table.proofs.Told.{none-told, fault-told}
-use Rattle.runner.proofs.Calling.{start-refused, start-short, start-fresh}
+use Rattle.runner.proofs.Calling.{start-refused, start-short, start-fresh, start-promised}
 use borrow.Author.Needs.{needs}
 use Rattle.runner.proofs.start.Statement.{statement}
 use Rattle.runner.proofs.start.Tie as tie
@@ -13,7 +13,7 @@ use Rattle.runner.proofs.start.Tie as tie
 passed : (c : tie.Else1) → check (c .before .before .before .before .before .args .table .now) ≡ fine
 passed c =
     let k = c .before .before in
-    sym (k .check-table .ensures) ∙ none-told (k .check-table .result) (c .if1 .left)
+    none-told ofTable (k .check-table .result) (k .check-table .ensures) (check-number (k .before .before .before .args .table .now)) refl (c .if1 .left)
 
 check-table-requires : tie.Need-check-table-requires
 check-table-requires c κs = search needs
@@ -23,14 +23,12 @@ returns c =
     let k = c .before .before in
     let a = k .before .before .before .args in
     let e = sym (k .check-table .ensures) ∙ fault-told (k .check-table .result) (c .if1 .taken) in
-    let is = start-refused (a .table .now) (a .state .now) _ _ e in
-    (is, subst⁻¹ (StartAnswers (a .state .now)) is (start-answers (a .table .now) (a .state .now)))
+    start-promised (a .table .now) (a .state .now) _ _ (start-refused (a .table .now) (a .state .now) _ _ e)
 
 returns-2 : tie.Need-returns-2
 returns-2 c =
     let a = c .before .before .before .before .before .before .args in
-    let is = start-short (a .table .now) (a .state .now) (passed (c .before)) (c .if2 .taken) in
-    (is, subst⁻¹ (StartAnswers (a .state .now)) is (start-answers (a .table .now) (a .state .now)))
+    start-promised (a .table .now) (a .state .now) _ _ (start-short (a .table .now) (a .state .now) (passed (c .before)) (c .if2 .taken))
 
 fresh-requires : tie.Need-fresh-requires
 fresh-requires c κs = search needs
@@ -47,8 +45,7 @@ returns-3 c =
     let k = w .before .before .before in
     let a = k .before .before .before .before .before .before .args in
     let block = w .write .ensures ∙ ap writeBlock (w .before .before .fresh .ensures .0) in
-    let is = start-fresh (a .table .now) (a .state .now) (passed (k .before)) _ (k .if2 .left) block in
-    (is, subst⁻¹ (StartAnswers (a .state .now)) is (start-answers (a .table .now) (a .state .now)))
+    start-promised (a .table .now) (a .state .now) _ _ (start-fresh (a .table .now) (a .state .now) (passed (k .before)) _ (k .if2 .left) block)
 
 pub start-spec : {M : Type 1} → statement M
 start-spec =

@@ -19,17 +19,29 @@ slice-aggregate-read-buffer c = search needs
 read-buffer-requires : tie.Need-read-buffer-requires
 read-buffer-requires c κs = search needs
 
+array-share-prefix-table : tie.Need-array-share-prefix-table
+array-share-prefix-table c = search needs
+
+slice-aggregate-try-print : tie.Need-slice-aggregate-try-print
+slice-aggregate-try-print c = let b = c .before .before .before .read-buffer in sym (length-take-le (b .result) (b .last .0) (b .ensures))
+
+try-print-requires : tie.Need-try-print-requires
+try-print-requires c κs = search needs
+
+returns : tie.Need-returns
+returns c = search needs
+
 slice-aggregate-read-buffer-2 : tie.Need-slice-aggregate-read-buffer-2
 slice-aggregate-read-buffer-2 c = search needs
 
 read-buffer-requires-2 : tie.Need-read-buffer-requires-2
 read-buffer-requires-2 c κs = search needs
 
-array-share-prefix-table : tie.Need-array-share-prefix-table
-array-share-prefix-table c = search needs
+array-share-prefix-table-2 : tie.Need-array-share-prefix-table-2
+array-share-prefix-table-2 c = search needs
 
 slice-aggregate-try-start : tie.Need-slice-aggregate-try-start
-slice-aggregate-try-start c = let b = c .before .before .before .before .before .before .read-buffer in sym (length-take-le (b .result) (b .last .0) (b .ensures))
+slice-aggregate-try-start c = let b = c .before .before .before .before .before .before .before .read-buffer in sym (length-take-le (b .result) (b .last .0) (b .ensures))
 
 array-borrow-prefix-state : tie.Need-array-borrow-prefix-state
 array-borrow-prefix-state c = search needs
@@ -40,8 +52,8 @@ slice-aggregate-try-start-2 c = let b = c .before .before .before .before .read-
 try-start-requires : tie.Need-try-start-requires
 try-start-requires c κs = search needs
 
-returns : tie.Need-returns
-returns c = search needs
+returns-2 : tie.Need-returns-2
+returns-2 c = search needs
 
 slice-aggregate-read-buffer-3 : tie.Need-slice-aggregate-read-buffer-3
 slice-aggregate-read-buffer-3 c = search needs
@@ -49,11 +61,11 @@ slice-aggregate-read-buffer-3 c = search needs
 read-buffer-requires-3 : tie.Need-read-buffer-requires-3
 read-buffer-requires-3 c κs = search needs
 
-array-share-prefix-table-2 : tie.Need-array-share-prefix-table-2
-array-share-prefix-table-2 c = search needs
+array-share-prefix-table-3 : tie.Need-array-share-prefix-table-3
+array-share-prefix-table-3 c = search needs
 
 slice-aggregate-try-run : tie.Need-slice-aggregate-try-run
-slice-aggregate-try-run c = let b = c .before .before .before .before .before .before .before .before .before .before .read-buffer in sym (length-take-le (b .result) (b .last .0) (b .ensures))
+slice-aggregate-try-run c = let b = c .before .before .before .before .before .before .before .before .before .before .before .read-buffer in sym (length-take-le (b .result) (b .last .0) (b .ensures))
 
 array-borrow-prefix-state-2 : tie.Need-array-borrow-prefix-state-2
 array-borrow-prefix-state-2 c = search needs
@@ -70,14 +82,14 @@ slice-aggregate-try-run-3 c = let b = c .before .before .before .before .before 
 try-run-requires : tie.Need-try-run-requires
 try-run-requires c κs = search needs
 
-returns-2 : tie.Need-returns-2
-returns-2 c = search needs
+returns-3 : tie.Need-returns-3
+returns-3 c = search needs
 
-array-share-prefix-table-3 : tie.Need-array-share-prefix-table-3
-array-share-prefix-table-3 c = search needs
+array-share-prefix-table-4 : tie.Need-array-share-prefix-table-4
+array-share-prefix-table-4 c = search needs
 
 slice-aggregate-try-on : tie.Need-slice-aggregate-try-on
-slice-aggregate-try-on c = let b = c .before .before .before .before .before .before .before .before .before .before .read-buffer in sym (length-take-le (b .result) (b .last .0) (b .ensures))
+slice-aggregate-try-on c = let b = c .before .before .before .before .before .before .before .before .before .before .before .read-buffer in sym (length-take-le (b .result) (b .last .0) (b .ensures))
 
 array-borrow-prefix-state-3 : tie.Need-array-borrow-prefix-state-3
 array-borrow-prefix-state-3 c = search needs
@@ -94,8 +106,8 @@ slice-aggregate-try-on-3 c = let b = c .before .before .before .before .before .
 try-on-requires : tie.Need-try-on-requires
 try-on-requires c κs = search needs
 
-returns-3 : tie.Need-returns-3
-returns-3 c = search needs
+returns-4 : tie.Need-returns-4
+returns-4 c = search needs
 
 pub try-case-spec : {M : Type 1} → statement M
 try-case-spec =
@@ -106,29 +118,33 @@ try-case-spec =
     buffer-requires-2
     slice-aggregate-read-buffer
     read-buffer-requires
+    array-share-prefix-table
+    slice-aggregate-try-print
+    try-print-requires
+    returns
     slice-aggregate-read-buffer-2
     read-buffer-requires-2
-    array-share-prefix-table
+    array-share-prefix-table-2
     slice-aggregate-try-start
     array-borrow-prefix-state
     slice-aggregate-try-start-2
     try-start-requires
-    returns
+    returns-2
     slice-aggregate-read-buffer-3
     read-buffer-requires-3
-    array-share-prefix-table-2
+    array-share-prefix-table-3
     slice-aggregate-try-run
     array-borrow-prefix-state-2
     slice-aggregate-try-run-2
     array-borrow-prefix-log
     slice-aggregate-try-run-3
     try-run-requires
-    returns-2
-    array-share-prefix-table-3
+    returns-3
+    array-share-prefix-table-4
     slice-aggregate-try-on
     array-borrow-prefix-state-3
     slice-aggregate-try-on-2
     array-borrow-prefix-log-2
     slice-aggregate-try-on-3
     try-on-requires
-    returns-3)
+    returns-4)

@@ -1,8 +1,9 @@
 //! An independent model of the recipe runner, written from the scope document alone.
 //!
-//! [`start`] and [`run`] are total functions on bytes. The modules follow the document's order, and each function names
-//! the rule that it stands for. It serves as the other side of the comparison tests and as the benchmark's baseline, so
-//! it is written the plain way: the table is read once a call into a vector of nodes, the state is changed in place.
+//! [`start`], [`run`] and [`print()`] are total functions on bytes. The modules follow the document's order, and each
+//! function names the rule that it stands for. It serves as the other side of the comparison tests, as the source of the
+//! stored cases and as the benchmark's baseline, so it is written the plain way: the table is read once a call into a
+//! vector of nodes, the state is changed in place.
 
 mod table;
 
@@ -16,4 +17,7 @@ mod log;
 
 mod run;
 
+mod print;
+
+pub use print::print;
 pub use run::{run, start, Answer, Started};

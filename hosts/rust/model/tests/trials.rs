@@ -1,6 +1,6 @@
 //! The rows "From the trial press", and the readings that look natural and are wrong.
 
-use recipe_model::{run, start, Answer, Started};
+use recipe_model::{print, run, start, Answer, Started};
 
 type Row = (u8, u8, u16, i32);
 /// A log record: kind, task, valve, value.
@@ -75,6 +75,30 @@ fn a_finishes_and_opens_the_valve_last() {
         (6, 1, 0, 0),
     ];
     assert_eq!(trial(&A, 10_000), (0, 8, lines));
+}
+
+#[test]
+fn a_prints_as_the_document_has_it() {
+    let lines = [
+        "spawned 1 0 2",
+        "waits 1 0 2",
+        "taken 2 0 0",
+        "valve 2 1 5",
+        "ended 2 0 0",
+        "taken 1 0 0",
+        "valve 1 0 1",
+        "ended 1 0 0",
+        "finished 8",
+    ];
+    assert_eq!(print(&table(&A)), lines.join("\n") + "\n");
+}
+
+#[test]
+fn refusals_full_logs_and_signs_print() {
+    assert_eq!(print(&table(&[(1, 0, 1, 0), (2, 0, 1, 0)])), "refused 13 1\n");
+    assert_eq!(print(&[0; 32_776]), "refused 11 0\n");
+    let full = print(&table(&[(1, 0, 4, 0), (5, 0, 3, 0), (9, 0, 0, 1), (3, 7, 1, 0), (9, 0, 0, -5)]));
+    assert_eq!(full, "valve 1 7 -5\n".repeat(4_096) + "logfull 8193\n");
 }
 
 #[test]

@@ -8,6 +8,7 @@ use Rattle.rules.specs.Steps.{recipes}
 use Rattle.rules.specs.Run.{roomOf, outcome}
 use Rattle.rules.proofs.Blocks.{fit-read}
 use Rattle.step.proofs.Links.{links-are}
+use Rattle.runner.specs.Along.{goesOn}
 use Rattle.runner.proofs.Calling.{head-fits, records-fit, answers}
 use borrow.Author.Needs.{needs}
 use Rattle.runner.proofs.call.carry_out.Statement.{statement}
@@ -38,7 +39,7 @@ write-requires c κs =
     (head-fits (isPlace (recipeOf (o .args .table .now))) (o .args .state .now) (o .pre .1) .0, c .before .before .before .before .before .drive .ensures .fine-state)
 
 number-of-requires : tie.Need-number-of-requires
-number-of-requires c κs = search needs
+number-of-requires c κs = ap goesOn (c .before .before .before .before .before .before .before .before .drive .ensures .stop-is)
 
 cast-t25 : tie.Need-cast-t25
 cast-t25 c =

@@ -1,16 +1,17 @@
-use mathlib.Core.Path.{_≡_, sym, ap, _∙_}
-use mathlib.Core.Option.{some}
-use native.Mathlib.Omega.{arith}
 use Prim.Native.Nat.{ℕ}
-use Rattle.rules.specs.Scheduler.{Ending, finished, paused, stuck, logfull, limit, tasks, spent, numberOf}
-use Rattle.runner.specs.Along.{endingOf}
+use mathlib.Core.Path.{_≡_, refl, sym, ap, _∙_, subst⁻¹}
+use mathlib.Core.Bool.{true≢false}
+use mathlib.Core.Option.{some, Option·map}
+use Rattle.rules.specs.Scheduler.{numberOf}
+use Rattle.runner.specs.declared.count.Stop.{Stop}
+use Rattle.runner.specs.Along.{endingOf, isMore}
 use borrow.Author.Needs.{needs}
 use Rattle.runner.proofs.call.number_of.Statement.{statement}
 use Rattle.runner.proofs.call.number_of.Tie as tie
 
--- the ending that a stop is
-same : (e e′ : Ending) → some e ≡ some e′ → numberOf e ≡ numberOf e′
-same e e′ h = let z : e ≡ e′ = cc in ap numberOf z
+-- what is asked, by the stop
+abbrev Due : ℕ → Stop → Type 0
+Due n s = some n ≡ Option·map numberOf (endingOf s)
 
 enum-told : tie.Need-enum-told
 enum-told c = search needs
@@ -34,31 +35,31 @@ enum-told-7 : tie.Need-enum-told-7
 enum-told-7 c = search needs
 
 returns : tie.Need-returns
-returns c = λ e h. absurd (let k = sym (ap endingOf (c .enum-told .given .1)) ∙ h in let z : _≡_ {A = ℕ} 0 1 = cc in omega arith)
+returns c = absurd (true≢false (sym (ap isMore (c .enum-told .given .1)) ∙ c .before .before .pre))
 
 returns-2 : tie.Need-returns-2
 unfolding numberOf
-returns-2 c = λ e h. same finished e (sym (ap endingOf (c .enum-told2 .given .1)) ∙ h)
+returns-2 c = subst⁻¹ (Due _) (c .enum-told2 .given .1) refl
 
 returns-3 : tie.Need-returns-3
 unfolding numberOf
-returns-3 c = λ e h. same paused e (sym (ap endingOf (c .enum-told3 .given .1)) ∙ h)
+returns-3 c = subst⁻¹ (Due _) (c .enum-told3 .given .1) refl
 
 returns-4 : tie.Need-returns-4
 unfolding numberOf
-returns-4 c = λ e h. same stuck e (sym (ap endingOf (c .enum-told4 .given .1)) ∙ h)
+returns-4 c = subst⁻¹ (Due _) (c .enum-told4 .given .1) refl
 
 returns-5 : tie.Need-returns-5
 unfolding numberOf
-returns-5 c = λ e h. same (limit tasks) e (sym (ap endingOf (c .enum-told5 .given .1)) ∙ h)
+returns-5 c = subst⁻¹ (Due _) (c .enum-told5 .given .1) refl
 
 returns-6 : tie.Need-returns-6
 unfolding numberOf
-returns-6 c = λ e h. same (limit spent) e (sym (ap endingOf (c .enum-told6 .given .1)) ∙ h)
+returns-6 c = subst⁻¹ (Due _) (c .enum-told6 .given .1) refl
 
 returns-7 : tie.Need-returns-7
 unfolding numberOf
-returns-7 c = λ e h. same logfull e (sym (ap endingOf (c .enum-told7 .given .1)) ∙ h)
+returns-7 c = subst⁻¹ (Due _) (c .enum-told7 .given .1) refl
 
 pub number-of-spec : {M : Type 1} → statement M
 number-of-spec =

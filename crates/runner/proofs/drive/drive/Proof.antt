@@ -1,16 +1,17 @@
 use Prim.Native.Nat.{_-_}
-use mathlib.Core.Path.{refl, sym, _∙_}
+use mathlib.Core.Path.{_≡_, refl, sym, _∙_}
 use native.Mathlib.Omega.{arith}
 use borrow.Author.Tests.{not-true, not-false}
 use Rattle.runner.proofs.Acting.{queue-length}
 use Rattle.runner.proofs.Along.{log-keeps}
+use mathlib.Core.Bool.{true}
 use mathlib.Core.List.{List}
 use lib.IntN.{ℤ}
 use Rattle.state.specs.declared.Task.{Task}
 use Rattle.state.specs.declared.State.{State}
 use Rattle.state.specs.View.{queueOf}
-use Rattle.runner.proofs.Stops.{more-none}
-use Rattle.runner.proofs.Driving.{Driven, Came, Tried, driven-start, along-busy, along-idle, to-proceed, to-try, came-ends, came-leaves, came-on, came-further, tried-ends, tried-on, tried-further}
+use Rattle.runner.specs.Along.{isMore}
+use Rattle.runner.proofs.Driving.{Driven, Came, Tried, driven-start, along-busy, along-idle, to-proceed, to-try, to-take, came-ends, came-leaves, came-on, came-further, tried-ends, tried-inside, tried-on, tried-further}
 use Rattle.runner.proofs.drive.drive.Statement.{statement}
 use Rattle.runner.proofs.drive.drive.Tie as tie
 
@@ -54,11 +55,11 @@ came c =
 tried : (c : tie.After-try-all Inv-loop μ-loop) → let l = c .before .before .before .before .before .before in
     let a = l .before .before .before .args in
     Tried (a .table .now) (a .first) (a .budget) (a .log .now) (l .loop .n) (l .loop .s)
-    (c .try-all .result .stop) (c .try-all .result .count) (c .try-all .last .1 .1 .1 .1 .1 .1 .1 .1 .0) (c .try-all .result .turns) (c .try-all .result .place)
+    (c .try-all .result .stop) (c .try-all .result .count) (c .try-all .last .1 .1 .1 .1 .1 .1 .1 .0) (c .try-all .result .turns)
 tried c =
     let l = c .before .before .before .before .before .before in
     let e = c .try-all .ensures in
-    record { tries = e .1 _ _ (along-idle (l .loop .inv) (c .before .before .before .before .before .if1 .left)); further = e .0 .2; off = c .before .before .before .before .before .if1 .left }
+    record { tries = e .1 _ _ (along-idle (l .loop .inv) (c .before .before .before .before .before .if1 .left)); further = e .0 .1; off = c .before .before .before .before .before .if1 .left }
 
 loop-holds : tie.Need-loop-holds Inv-loop μ-loop
 loop-holds c = driven-start _ _ _ refl refl (c .before .before .pre)
@@ -95,7 +96,7 @@ try-all-requires : tie.Need-try-all-requires Inv-loop μ-loop
 try-all-requires c κs =
     let l = c .before .before .before .before .before in
     let o = l .before .before .before in
-    to-try (l .loop .inv) _ (o .args .starts .now) (o .pre .accepted) (o .pre .links) (c .before .before .before .before .if1 .left)
+    to-try (l .loop .inv) (o .pre .accepted) (c .before .before .before .before .if1 .left)
 
 is-more-requires-2 : tie.Need-is-more-requires-2 Inv-loop μ-loop
 is-more-requires-2 c κs = tt
@@ -109,23 +110,40 @@ same-length-2 c = c .before .before .before .before .before .log2 .given ∙ log
 returns-2 : tie.Need-returns-2 Inv-loop μ-loop
 returns-2 c = tried-ends (tried (c .before .before .before .before .before .before)) (sym (c .before .before .is-more2 .ensures) ∙ not-true _ (c .before .if3 .taken)) _ (c .turn .ensures .0) (c .turn .ensures .1)
 
+-- a task is taken up
+on : (c : tie.Else3 Inv-loop μ-loop) → isMore (c .before .before .before .before .before .try-all .result .stop) ≡ true
+on c = sym (c .before .is-more2 .ensures) ∙ not-false _ (c .if3 .left)
+
+went : (c : tie.After-taken Inv-loop μ-loop) → let w = c .before .before .before .before .before .before .before .before .before in
+    let a = w .before .before .before .before .before .before .before .before .before .args in
+    Driven (a .table .now) (a .first) (a .budget) (a .log .now) (c .taken .result) (w .try-all .result .count) (w .try-all .last .1 .1 .1 .1 .1 .1 .1 .0)
+went c =
+    let k = c .before .before .before .before in
+    tried-on (tried (k .before .before .before .before .before)) (on k) _ (c .before .onward .ensures) _ (c .taken .ensures .0) (c .taken .ensures .1)
+
+onward-requires : tie.Need-onward-requires Inv-loop μ-loop
+onward-requires c κs =
+    let k = c .before .before in
+    let w = k .before .before .before .before .before in
+    let l = w .before .before .before .before .before .before in
+    let o = l .before .before .before in
+    to-take (l .loop .inv) _ (o .args .starts .now) _ (o .pre .accepted) (o .pre .links) (w .before .before .before .before .before .if1 .left) (tried-inside (tried w) (on k))
+
 taken-requires : tie.Need-taken-requires Inv-loop μ-loop
 taken-requires c κs =
-    let e = c .before .before .before .before .before .try-all .ensures .0 in
-    let on = sym (c .before .is-more2 .ensures) ∙ not-false _ (c .if3 .left) in
-    (c .before .before .before .before .before .before .before .before .before .before .before .loop .inv .fine-state, c .before .before .before .before .before .before .before .before .before .before .if1 .left, e .0, e .1 (more-none (c .before .before .before .before .before .try-all .result .stop) on))
+    let k = c .before .before .before in
+    let w = k .before .before .before .before .before in
+    (w .before .before .before .before .before .before .loop .inv .fine-state, w .before .before .before .before .before .if1 .left, tried-inside (tried w) (on k))
 
 loop-less-2 : tie.Need-loop-less-2 Inv-loop μ-loop
 loop-less-2 c =
-    let on = sym (c .before .before .is-more2 .ensures) ∙ not-false _ (c .before .if3 .left) in
-    let n = tried-further (tried (c .before .before .before .before .before .before)) on in
-    let b = tried-on (tried (c .before .before .before .before .before .before)) on _ (c .taken .ensures .0) (c .taken .ensures .1) .along .in-budget in
+    let k = c .before .before .before .before in
+    let n = tried-further (tried (k .before .before .before .before .before)) (on k) in
+    let b = went c .along .in-budget in
     omega arith
 
 loop-again-2 : tie.Need-loop-again-2 Inv-loop μ-loop
-loop-again-2 c =
-    let on = sym (c .before .before .is-more2 .ensures) ∙ not-false _ (c .before .if3 .left) in
-    tried-on (tried (c .before .before .before .before .before .before)) on _ (c .taken .ensures .0) (c .taken .ensures .1)
+loop-again-2 c = went c
 
 pub drive-spec : {M : Type 1} → statement M
 drive-spec =
@@ -146,6 +164,7 @@ drive-spec =
     turn-requires
     same-length-2
     returns-2
+    onward-requires
     taken-requires
     loop-less-2
     loop-again-2)

@@ -11,7 +11,7 @@ use Rattle.runner.proofs.drive.taken.Statement.{statement}
 use Rattle.runner.proofs.drive.taken.Tie as tie
 
 take-up-requires : tie.Need-take-up-requires
-take-up-requires c κs = search needs
+take-up-requires c κs = let given = c .before .pre in (given .0, given .1, omega (arith, given .2))
 
 returns : tie.Need-returns
 returns c = let e = c .before .if1 .taken in (rw e (c .take-up .ensures .0), c .take-up .ensures .1)

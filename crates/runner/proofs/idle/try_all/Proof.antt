@@ -15,7 +15,7 @@ use Rattle.rules.proofs.Standing.{spells}
 use Rattle.step.specs.Ready.{idle, aheadIn}
 use Rattle.runner.specs.declared.count.Stop.the-variants.{Finished, Stuck}
 use Rattle.runner.proofs.Stops.{not-more}
-use Rattle.runner.proofs.Trying.{Chosen, chosen, Takes, takes-one, waiting, placed-at, in-budget, in-log, finishes, jams, tries}
+use Rattle.runner.proofs.Trying.{Chosen, chosen, Takes, takes-one, waiting, in-budget, in-log, finishes, jams, tries}
 use borrow.Author.Needs.{needs}
 use Rattle.runner.proofs.idle.try_all.Statement.{statement}
 use Rattle.runner.proofs.idle.try_all.Tie as tie
@@ -42,14 +42,14 @@ some-goes c =
 -- what the tests before the take-up said
 takes : (c : tie.After-take) → let a = c .before .before .before .before .before .before .before .before .before .before .before .before .before .before .before .args in
     Takes (a .budget) (taken (entry (a .queue .now) (a .front) (c .before .before .before .before .before .before .least2 .result) .number)) (c .take .result .stop) (c .before .before .before .before .turn-first .result) (c .take .result .count)
-    (c .before .before .before .before .turn-first .last .1 .1 .1 .1 .1 .1 .1 .1 .0) (c .take .last .1 .1 .1 .1 .1 .1 .0)
+    (c .before .before .before .before .turn-first .last .1 .1 .1 .1 .1 .1 .1 .1 .0) (c .take .last .1 .1 .1 .1 .0)
 takes c = record { all = c .take .ensures .0 }
 
 returns : tie.Need-returns
 returns c =
     let a = c .before .before .before .args in (
-      (omega arith, λ e. absurd (not-more Finished refl e), λ e. absurd (not-more Finished refl e)),
-      λ u given x. finishes (a .table .now) (within (c .before)) (a .issued) (a .variables .now) (a .queue .now) (a .front) (a .queued) u (a .budget) given (a .before) (a .log .now) x 0 (c .if1 .taken),
+      (omega arith, λ e. absurd (not-more Finished refl e)),
+      λ u given x. finishes (a .table .now) (within (c .before)) (a .issued) (a .variables .now) (a .queue .now) (a .front) (a .queued) u (a .budget) given (a .before) (a .log .now) x (c .if1 .taken),
     )
 
 first-ready-requires : tie.Need-first-ready-requires
@@ -60,8 +60,8 @@ returns-2 : tie.Need-returns-2
 returns-2 c =
     let a = c .before .before .before .before .before .args in
     let some-queued = c .before .before .if1 .left in (
-      (omega arith, λ e. absurd (not-more Stuck refl e), λ e. absurd (not-more Stuck refl e)),
-      λ u given x. jams (a .table .now) (within (c .before .before .before)) (a .issued) (a .variables .now) (a .queue .now) (a .front) (a .queued) u (a .budget) given (a .before) (a .log .now) x 0 (omega arith)
+      (omega arith, λ e. absurd (not-more Stuck refl e)),
+      λ u given x. jams (a .table .now) (within (c .before .before .before)) (a .issued) (a .variables .now) (a .queue .now) (a .front) (a .queued) u (a .budget) given (a .before) (a .log .now) x (omega arith)
           (sym (c .before .first-ready .ensures) ∙ c .if2 .taken),
     )
 
@@ -106,15 +106,7 @@ take-requires c κs =
     let f = waiting (o .pre) .few in
     let h = k .in-ahead in
     let same = c .before .before .log .given in
-    record {
-      accepted = o .pre .accepted;
-      leads = o .pre .leads;
-      front-fits = o .pre .front-fits;
-      few = omega arith;
-      placed = placed-at (o .pre) _ (omega arith);
-      in-budget = omega (arith, k .in-left, n .0);
-      in-log = omega (arith, k .in-room, n .1);
-    }
+    (o .pre .front-fits, omega arith, omega (arith, k .in-left, n .0), omega (arith, k .in-room, n .1))
 
 same-length : tie.Need-same-length
 same-length c = search needs
@@ -131,18 +123,17 @@ returns-3 c =
     let h = k .in-ahead in
     let n = f .ensures .1 in
     let same = c .before .before .before .before .before .log .given in
-    let e = t .ensures .1 .0 in (
+    let e = t .ensures .1 in (
       (
         omega arith,
-        λ o. omega arith,
         λ o.
             let m = takes-one (recipeOf (a .table .now)) state (takes (c .before .before)) o in
-            omega (arith, n .0),
+            (omega arith, omega (arith, n .0)),
       ),
       λ u given x.
           rw e
-          (tries (a .table .now) w (a .issued) (a .variables .now) (a .queue .now) (a .front) (a .queued) u (a .budget) given _ _ _ _ _ _ _
-          (f .ensures .0 u given x) s h (takes (c .before .before)) (t .ensures .1 .1)
+          (tries (a .table .now) w (a .issued) (a .variables .now) (a .queue .now) (a .front) (a .queued) u (a .budget) given _ _ _ _ _ _
+          (f .ensures .0 u given x) s h (takes (c .before .before))
           (⊎-elim inl (λ g. inr (⊎-elim (λ i. inl (omega (arith, n .0))) (λ i. inr (omega (arith, n .1))) g)) (k .reason))),
     )
 

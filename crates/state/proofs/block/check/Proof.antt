@@ -1,4 +1,6 @@
-use mathlib.Core.Path.{sym, _∙_}
+use mathlib.Core.Path.{refl, sym, _∙_}
+use Rattle.rules.specs.Answers.{ofBlock}
+use Rattle.rules.proofs.Answers.{records-number}
 use Rattle.table.proofs.Told.{none-told, fault-told}
 use Rattle.state.proofs.Checking.{wrong-length, records-fault, numbers-decide}
 use borrow.Author.Needs.{needs}
@@ -25,8 +27,9 @@ returns-3 : tie.Need-returns-3
 returns-3 c =
     let r = c .before .before .before in
     let e = r .before in
-    let none = sym (r .check-records .ensures) ∙ none-told (r .check-records .result) (c .before .if2 .left) in
-    c .check-numbers .ensures ∙ numbers-decide _ (e .before .before .before .args .block .now) (e .if1 .left) none
+    let b = e .before .before .before .args .block .now in
+    let none = none-told ofBlock (r .check-records .result) (r .check-records .ensures) (records-number _ b 33 0) refl (c .before .if2 .left) in
+    c .check-numbers .ensures ∙ numbers-decide _ b (e .if1 .left) none
 
 pub check-spec : {M : Type 1} → statement M
 check-spec =

@@ -6,18 +6,18 @@ use borrow.Author.Tests.{eq-eqb, ne-eqb}
 use borrow.Author.Needs.{needs}
 use Rattle.rules.specs.Table.{spanOf, inner}
 use Rattle.expr.proofs.Reading.{whole}
-use Rattle.step.proofs.Parts.{spelt-behind, same-span, body-some, body-none}
+use Rattle.step.proofs.Parts.{spelt-inner, body-some, body-none}
 use Rattle.step.proofs.moves.body_of.Statement.{statement}
 use Rattle.step.proofs.moves.body_of.Tie as tie
 
 span : (c : tie.After-span-of) → c .span-of .result ≡ spanOf (inner (c .before .before .before .args .part .now))
-span c = c .span-of .ensures .0 ∙ ap spanOf (c .before .from .ensures) ∙ same-span (c .before .before .before .pre .0)
+span c = c .span-of .ensures .0 ∙ ap spanOf (c .before .enclosed .ensures)
 
-from-requires : tie.Need-from-requires
-from-requires c κs = search needs
+enclosed-requires : tie.Need-enclosed-requires
+enclosed-requires c κs = c .before .pre .0 .part .stands .whole
 
 span-of-requires : tie.Need-span-of-requires
-span-of-requires c κs = let l = whole (spelt-behind (c .before .before .pre .0)) in omega (arith, ap length (c .from .ensures))
+span-of-requires c κs = let l = whole (spelt-inner (c .before .before .pre .0)) in omega (arith, ap length (c .enclosed .ensures))
 
 add-first : tie.Need-add-first
 add-first c = search needs
@@ -68,7 +68,7 @@ pub body-of-spec : {M : Type 1} → statement M
 body-of-spec =
     tie.close
     (tie.spec
-    from-requires
+    enclosed-requires
     span-of-requires
     add-first
     add-first-2

@@ -1,9 +1,11 @@
 use borrow.Author.Needs.{needs}
-use mathlib.Core.Path.{_≡_, sym, ap, _∙_}
+use mathlib.Core.Path.{_≡_, refl, sym, ap, _∙_}
 use native.Mathlib.Omega.{arith}
 use native.Mathlib.Nat.{pos-of-ne-zero}
 use denote.Ref.{now}
 use Rattle.rules.specs.Table.{kindOf, inner, expression, at-end, before-end, recordFault, fine, checkE}
+use Rattle.rules.specs.Answers.{ofTable}
+use Rattle.rules.proofs.Answers.{checkE-number}
 use Rattle.rules.proofs.Grammar.Checking.{Right, right, right-whole, operands}
 use Rattle.rules.proofs.Grammar.Accepting.{right-of}
 use Rattle.table.specs.Check.{endsOf, verdictOf, Part}
@@ -80,7 +82,7 @@ module _ (t : ℕ) where
   Passed = check-expr-lts.Else5 (callees t) (check-expr-at t) check-expr.Post
 
   fine2 : (c : Passed) → checkE (start2 (c .before .before) .args .left - 1) (start2 (c .before .before) .args .at + 1) before-end (inner (now (start2 (c .before .before) .args .part))) ≡ fine
-  fine2 c = first2 (c .before .before) ∙ none-told (c .before .before .check-expr2 .result) (c .if5 .left)
+  fine2 c = none-told ofTable (c .before .before .check-expr2 .result) (sym (first2 (c .before .before))) (checkE-number _ _ before-end (inner (now (start2 (c .before .before) .args .part)))) refl (c .if5 .left)
 
   right2 : (c : Passed) → Right expression before-end (now (c .before .before .before .before .enclosed .result))
   right2 c = rw (c .before .before .before .before .enclosed .ensures) (right-of _ _ before-end _ (fine2 c))

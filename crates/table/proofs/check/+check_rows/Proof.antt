@@ -1,14 +1,15 @@
-use borrow.Author.Needs.{needs}
-use mathlib.Core.Path.{_≡_, sym, ap, ap₂, _∙_}
+use mathlib.Core.Path.{_≡_, refl, sym, ap, ap₂, _∙_}
 use mathlib.Core.List.{List}
 use native.Mathlib.Omega.{arith}
 use denote.Ref.{now}
 use lib.ListN.{length, drop}
 use Rattle.rules.specs.Table as T
 use Rattle.rules.specs.Table.{spanOf, fine, checkRows}
+use Rattle.rules.specs.Answers.{ofTable}
+use Rattle.rules.proofs.Answers.{rows-number}
 use Rattle.table.specs.Check.{sortOf, verdictOf, OfRow, statements, Part, headOf, body, bodyAt}
 use Rattle.table.proofs.Told.{none-told, fault-told}
-use Rattle.table.proofs.Rows.{HeadFine, head-fine, parted, body-row, Left, left-start, left-end, left-part, left-head, left-inside, left-next}
+use Rattle.table.proofs.Rows.{head-number, HeadFine, head-fine, parted, body-row, Left, left-start, left-end, left-part, left-head, left-inside, left-next}
 use Prim.Native.Nat.{ℕ, _+_, _-_, _*_, _<_}
 use borrow.Fn.Kinds.{In}
 use borrow.Fn.PlainCycle.{Measures, is, falls, and}
@@ -77,7 +78,7 @@ module _ (t : ℕ) where
   here c = c .before .before .before
 
   passed : (c : Passed) → headOf (sortOf (start (here c) .args .sort)) (start (here c) .args .left) (here c .before .before .loop .i) (rest (here c)) ≡ fine
-  passed c = head-is (c .before .before) ∙ none-told (c .before .before .check-head .result) (c .if1 .left)
+  passed c = none-told ofTable (c .before .before .check-head .result) (sym (head-is (c .before .before))) (head-number (sortOf (start (here c) .args .sort)) _ _ (rest (here c))) refl (c .if1 .left)
 
   fine-here : (c : Passed) → HeadFine (sortOf (start (here c) .args .sort)) (start (here c) .args .left) (here c .before .before .loop .i) (rest (here c))
   fine-here c = head-fine _ _ _ (rest (here c)) (passed c)
@@ -101,7 +102,7 @@ module _ (t : ℕ) where
   next : (c : Last) → Left (sortOf (start (here (c .before .before .before .before .before .before)) .args .sort)) (start (here (c .before .before .before .before .before .before)) .args .left) (start (here (c .before .before .before .before .before .before)) .args .at) (now (start (here (c .before .before .before .before .before .before)) .args .part)) (here (c .before .before .before .before .before .before) .before .before .loop .off + 8 + 8 * spanOf (rest (here (c .before .before .before .before .before .before)))) (here (c .before .before .before .before .before .before) .before .before .loop .i + 1 + spanOf (rest (here (c .before .before .before .before .before .before))))
   next c =
       let k = c .before .before .before .before .before .before in
-      left-next (of-row (here k)) (left (here k)) (here k .before .loop-test .taken) (passed k) (inside-is (c .before .before .before) ∙ none-told (c .before .before .before .check-rows .result) (c .before .if2 .left))
+      left-next (of-row (here k)) (left (here k)) (here k .before .loop-test .taken) (passed k) (none-told ofTable (c .before .before .before .check-rows .result) (sym (inside-is (c .before .before .before))) (rows-number T.statement _ _ (body (rest (here k)))) refl (c .before .if2 .left))
 
   loop-holds : check-rows-lts.Need-loop-holds (callees t) (check-rows-at t) check-rows.Post Inv-loop μ-loop
   loop-holds c = left-start _ _ _ _ (c .before .pre .1 .0)

@@ -1,8 +1,12 @@
-use mathlib.Core.Path.{sym, _∙_}
+use mathlib.Core.Path.{refl, sym, _∙_}
 use denote.Ref.{now}
 use borrow.Author.Tests.{not-true, not-false}
+use Rattle.rules.specs.Table.{procedure}
+use Rattle.rules.specs.Answers.{ofTable}
+use Rattle.rules.proofs.Answers.{rows-number}
 use Rattle.table.specs.Check.{OfRow}
-use Rattle.table.proofs.Whole.{fit-row, wrong-length, both}
+use Rattle.table.proofs.Told.{none-told, fault-told}
+use Rattle.table.proofs.Whole.{fit-row, wrong-length, rows-fault, spawns-decide}
 use borrow.Author.Needs.{needs}
 use Rattle.table.proofs.check.check_table.Statement.{statement}
 use Rattle.table.proofs.check.check_table.Tie as tie
@@ -22,14 +26,21 @@ procedures-in-requires c κs = fit-row (now (c .before .before .before .before .
 check-spawns-requires : tie.Need-check-spawns-requires
 check-spawns-requires c κs = fit-row (now (c .before .before .before .before .before .args .table)) (sym (c .before .before .before .length-fits .ensures) ∙ not-false _ (c .before .before .if1 .left))
 
-earlier-requires : tie.Need-earlier-requires
-earlier-requires c κs = search needs
-
 returns-2 : tie.Need-returns-2
 returns-2 c =
-    let t = now (c .before .before .before .before .before .before .before .args .table) in
-    let fits = sym (c .before .before .before .before .before .length-fits .ensures) ∙ not-false _ (c .before .before .before .before .if1 .left) in
-    c .earlier .ensures ∙ both t fits (c .before .before .before .check-rows .ensures) (c .before .before .procedures-in .ensures) (c .before .check-spawns .ensures)
+    let k = c .before .before .before .before in
+    let e = k .before in
+    let f = fault-told (k .check-rows .result) (c .if2 .taken) in
+    f ∙ rows-fault (now (e .before .before .before .args .table)) (sym (e .before .length-fits .ensures) ∙ not-false _ (e .if1 .left)) (sym (k .check-rows .ensures) ∙ f)
+
+returns-3 : tie.Need-returns-3
+returns-3 c =
+    let s = c .before .before in
+    let k = s .before .before in
+    let e = k .before in
+    let t = now (e .before .before .before .args .table) in
+    let none = none-told ofTable (k .check-rows .result) (k .check-rows .ensures) (rows-number procedure 17 0 t) refl (c .if2 .left) in
+    s .check-spawns .ensures ∙ spawns-decide t (sym (e .before .length-fits .ensures) ∙ not-false _ (e .if1 .left)) none (s .before .procedures-in .ensures)
 
 pub check-table-spec : {M : Type 1} → statement M
 check-table-spec =
@@ -40,5 +51,5 @@ check-table-spec =
     check-rows-requires
     procedures-in-requires
     check-spawns-requires
-    earlier-requires
-    returns-2)
+    returns-2
+    returns-3)

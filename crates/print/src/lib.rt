@@ -1,0 +1,198 @@
+// A recipe's run as text: what the print program writes.
+use fields::half_at;
+use fields::word_at;
+use runner::Answer;
+use runner::run;
+use runner::start;
+ghost use mathlib.Core.Path.{_≡_};
+ghost use mathlib.Core.List.{[], _∷_, _++_};
+ghost use Prim.Native.Nat.{_+_, _*_, _<_, _≤_};
+ghost use lib.ListN.{length, drop};
+ghost use Rattle.rules.specs.Fields.{signed};
+ghost use Rattle.rules.specs.Print.{decimal, kindWord, endingWord, spaced, spacedValue, line, lineAt, lines, endingLine, refusedLine, runText, textOn, printed};
+ghost use Rattle.rules.specs.Run.{roomOf};
+ghost use Rattle.runner.specs.Calls.{outcomeOf};
+ghost use Rattle.print.specs.Puts.{Puts, Counts};
+
+// Each `put` writes a text from the byte `at` on and gives the index behind it.
+fn put_word(b: &mut [u8], at: usize, word: &[u8]) -> usize
+    requires { ⌜ at + length (now word) ≤ length (now b) ⌝ }
+    ensures { λ r. ⌜ Puts (now (b .entry)) at (now (word .entry)) r (now (b .exit)) ⌝ }
+{
+    let mut i: usize = 0;
+    while i < word.len() {
+        b[at + i] = word[i];
+        i += 1;
+    }
+    at + i
+}
+
+fn put_digit(b: &mut [u8], at: usize, d: u32) -> usize
+    requires { ⌜ (d < 10) × (at < length (now b)) ⌝ }
+    ensures { λ r. ⌜ Puts (now (b .entry)) at ((48 + d) ∷ []) r (now (b .exit)) ⌝ }
+{
+    b[at] = (48 + d) as u8;
+    at + 1
+}
+
+// The digits before the last, then the last.
+fn put_decimal(b: &mut [u8], at: usize, n: u32) -> usize
+    requires { ⌜ at + length (decimal n) ≤ length (now b) ⌝ }
+    ensures { λ r. ⌜ Puts (now (b .entry)) at (decimal n) r (now (b .exit)) ⌝ }
+{
+    if n < 10 {
+        return put_digit(b, at, n);
+    }
+    let last = put_decimal(b, at, n / 10);
+    put_digit(b, last, n % 10)
+}
+
+fn put_number(b: &mut [u8], at: usize, n: u32) -> usize
+    requires { ⌜ at + length (spaced n) ≤ length (now b) ⌝ }
+    ensures { λ r. ⌜ Puts (now (b .entry)) at (spaced n) r (now (b .exit)) ⌝ }
+{
+    let first = put_word(b, at, b" ");
+    put_decimal(b, first, n)
+}
+
+// The value that these 32 bits spell.
+fn put_value(b: &mut [u8], at: usize, w: u32) -> usize
+    requires { ⌜ at + length (spacedValue (signed w)) ≤ length (now b) ⌝ }
+    ensures { λ r. ⌜ Puts (now (b .entry)) at (spacedValue (signed w)) r (now (b .exit)) ⌝ }
+{
+    if w < 2147483648 {
+        return put_number(b, at, w);
+    }
+    let first = put_word(b, at, b" -");
+    put_decimal(b, first, 4294967295 - w + 1)
+}
+
+fn put_kind(b: &mut [u8], at: usize, kind: u8) -> usize
+    requires { ⌜ at + 7 ≤ length (now b) ⌝ }
+    ensures { λ r. ⌜ Puts (now (b .entry)) at (kindWord kind) r (now (b .exit)) ⌝ }
+{
+    match kind {
+        1 => put_word(b, at, b"spawned"),
+        2 => put_word(b, at, b"taken"),
+        3 => put_word(b, at, b"gave"),
+        4 => put_word(b, at, b"waits"),
+        5 => put_word(b, at, b"turned"),
+        6 => put_word(b, at, b"ended"),
+        _ => put_word(b, at, b"valve"),
+    }
+}
+
+fn put_ending(b: &mut [u8], at: usize, number: u32) -> usize
+    requires { ⌜ at + 8 ≤ length (now b) ⌝ }
+    ensures { λ r. ⌜ Puts (now (b .entry)) at (endingWord number) r (now (b .exit)) ⌝ }
+{
+    match number {
+        0 => put_word(b, at, b"finished"),
+        1 => put_word(b, at, b"paused"),
+        2 => put_word(b, at, b"stuck"),
+        3 => put_word(b, at, b"tasks"),
+        4 => put_word(b, at, b"spent"),
+        _ => put_word(b, at, b"logfull"),
+    }
+}
+
+fn put_line(b: &mut [u8], at: usize, kind: u8, task: u16, valve: u8, value: u32) -> usize
+    requires { ⌜ at + 30 ≤ length (now b) ⌝ }
+    ensures { λ r. ⌜ Puts (now (b .entry)) at (line kind task valve (signed value)) r (now (b .exit)) ⌝ }
+    ensures { λ r. ⌜ r ≤ at + 30 ⌝ }
+{
+    let k = put_kind(b, at, kind);
+    let t = put_number(b, k, task as u32);
+    let v = put_number(b, t, valve as u32);
+    let z = put_value(b, v, value);
+    put_word(b, z, b"\n")
+}
+
+// The line of the log record from the byte `from` on.
+fn put_record(b: &mut [u8], at: usize, log: &[u8], from: usize) -> usize
+    requires { ⌜ from + 8 ≤ length (now log) ⌝ }
+    requires { ⌜ at + 30 ≤ length (now b) ⌝ }
+    ensures { λ r. ⌜ Puts (now (b .entry)) at (lineAt (now (log .entry)) from) r (now (b .exit)) ⌝ }
+    ensures { λ r. ⌜ r ≤ at + 30 ⌝ }
+{
+    let kind = log[from];
+    let valve = log[from + 1];
+    put_line(
+        b,
+        at,
+        kind,
+        half_at(log, from + 2),
+        valve,
+        word_at(log, from + 4),
+    )
+}
+
+fn put_lines(b: &mut [u8], log: &[u8], records: usize) -> usize
+    requires { ⌜ 8 * records ≤ length (now log) ⌝ }
+    requires { ⌜ 30 * records ≤ length (now b) ⌝ }
+    ensures { λ r. ⌜ Puts (now (b .entry)) 0 (lines (now (log .entry)) records) r (now (b .exit)) ⌝ }
+    ensures { λ r. ⌜ r ≤ 30 * records ⌝ }
+{
+    let mut at: usize = 0;
+    let mut i: usize = 0;
+    while i < records {
+        at = put_record(b, at, log, 8 * i);
+        i += 1;
+    }
+    at
+}
+
+fn put_last(b: &mut [u8], at: usize, number: u32, steps: u32) -> usize
+    requires { ⌜ at + 30 ≤ length (now b) ⌝ }
+    ensures { λ r. ⌜ Puts (now (b .entry)) at (endingLine number steps) r (now (b .exit)) ⌝ }
+{
+    let n = put_ending(b, at, number);
+    let s = put_number(b, n, steps);
+    put_word(b, s, b"\n")
+}
+
+fn put_refused(b: &mut [u8], at: usize, number: u32, place: u32) -> usize
+    requires { ⌜ at + 30 ≤ length (now b) ⌝ }
+    ensures { λ r. ⌜ Puts (now (b .entry)) at (refusedLine number place) r (now (b .exit)) ⌝ }
+{
+    let w = put_word(b, at, b"refused");
+    let n = put_number(b, w, number);
+    let i = put_number(b, n, place);
+    put_word(b, i, b"\n")
+}
+
+// A run's text.
+fn put_run(b: &mut [u8], a: Answer, log: &[u8]) -> usize
+    requires { ⌜ 8 * a .records ≤ length (now log) ⌝ }
+    requires { ⌜ 30 * a .records + 30 ≤ length (now b) ⌝ }
+    ensures { λ r. ⌜ Puts (now (b .entry)) 0 (runText (outcomeOf a [] (now (log .entry)))) r (now (b .exit)) ⌝ }
+{
+    if 5 < a.number {
+        return put_refused(b, 0, a.number, a.place);
+    }
+    let at = put_lines(b, log, a.records as usize);
+    put_last(b, at, a.number, a.steps)
+}
+
+// The text for a table, with a block to start on and a log buffer.
+fn put_text(b: &mut [u8], table: &[u8], state: &mut [u8], log: &mut [u8]) -> usize
+    requires { ⌜ 30 * roomOf (now log) + 30 ≤ length (now b) ⌝ }
+    ensures { λ r. ⌜ Puts (now (b .entry)) 0 (textOn (now (table .entry)) (now (state .entry)) (now (log .entry))) r (now (b .exit)) ⌝ }
+{
+    let s = start(table, state);
+    if s.number != 0 {
+        return put_refused(b, 0, s.number, s.place);
+    }
+    let a = run(table, state, 10000, log);
+    put_run(b, a, log)
+}
+
+// What is printed for a table, of at most 30 bytes a line: its length, and the bytes at the start of `out`.
+pub fn print_recipe(table: &[u8], out: &mut [u8; 131072]) -> usize
+    ensures { λ r. ⌜ (r ≡ length (printed (now (table .entry)))) × (now (out .exit) ≡ printed (now (table .entry)) ++ drop r (now (out .entry))) ⌝ }
+    ensures { λ r. ⌜ Counts r (now (out .exit)) ⌝ }
+{
+    let mut state = [0u8; 520];
+    let mut log = [0u8; 32768];
+    put_text(out, table, &mut state, &mut log)
+}
