@@ -1,7 +1,7 @@
 -- Document 01, "From the trial press": the starred rows and rows beside them as one table, and what it is to pass a row.
 -- Assumes nothing.
 use Prim.Native.Nat.{ℕ, zero, suc, _+_, _-_, _*_, _/_}
-use mathlib.Core.Bool.{Bool, true, false, _&&_}
+use mathlib.Core.Bool.{Bool, true, false, _&&_, cond}
 use mathlib.Core.Option.{Option, none, some}
 use mathlib.Core.List.{List, [], _∷_, _++_}
 use lib.Dec.{eqb}
@@ -160,6 +160,11 @@ abbrev pub twoSpawns : List ℕ
 twoSpawns =
     row 1 0 4 (pos 0) ++ row 6 8 1 (pos 1) ++ row 9 0 0 (pos 0) ++ row 6 9 1 (pos 2) ++ row 9 0 0 (pos 0) ++ row 1 0 0 (pos 0) ++ row 1 0 0 (pos 0)
 
+-- A task of the third procedure does what stands there.
+abbrev pub spawnThird : List ℕ
+spawnThird =
+    row 1 0 2 (pos 0) ++ row 6 8 1 (pos 2) ++ row 9 0 0 (pos 6) ++ row 1 0 1 (pos 0) ++ row 2 0 0 (pos 0) ++ row 1 0 2 (pos 0) ++ row 3 5 1 (pos 0) ++ row 10 64 0 (pos 0)
+
 -- A task waits for variable 9, which another sets to its own number before it ends.
 abbrev pub setLater : List ℕ
 setLater =
@@ -215,6 +220,7 @@ readings =
     ∷ run atFirst 0 4 (some (row 7 1 1 (pos 0) ++ row 7 2 1 (pos 0) ++ row 7 3 1 (pos 0) ++ row 6 0 1 (pos 0)))
     ∷ run twoSpawns 0 7
     (some (row 1 0 1 (pos 2) ++ row 1 0 1 (pos 3) ++ row 6 0 1 (pos 0) ++ row 2 0 2 (pos 0) ++ row 6 0 2 (pos 0) ++ row 2 0 3 (pos 0) ++ row 6 0 3 (pos 0)))
+    ∷ run spawnThird 0 5 (some (row 1 0 1 (pos 2) ++ row 6 0 1 (pos 0) ++ row 2 0 2 (pos 0) ++ row 7 5 2 (pos 6) ++ row 6 0 2 (pos 0)))
     ∷ run setLater 0 7
     (some (row 1 0 1 (pos 2) ++ row 4 0 1 (pos 0) ++ row 2 0 2 (pos 0) ++ row 6 0 2 (pos 0) ++ row 2 0 1 (pos 0) ++ row 6 0 1 (pos 0)))
     ∷ run spawnOwn 0 7
@@ -294,8 +300,12 @@ procedureOf l = row 1 0 (length l / 8) (pos 0) ++ l
 abbrev pub setTo : List ℕ → List ℕ
 setTo l = procedureOf (row 3 0 (length l / 8) (pos 0) ++ l)
 
+-- expressions of one record and of two
 abbrev pub zero9 : List ℕ
 zero9 = row 9 0 0 (pos 0)
+
+abbrev pub not9 : List ℕ
+not9 = row 12 1 1 (pos 0) ++ zero9
 
 -- each of the tables is refused with this number and place
 abbrev pub each : ℕ → ℕ → List (List ℕ) → List Row
@@ -320,6 +330,14 @@ columns =
     ∷ procedureOf (row 4 0 0 (pos 0)) ∷ procedureOf (row 5 0 0 (pos 0)) ∷ procedureOf (row 6 8 0 (pos 0)) ∷ procedureOf (row 3 0 2 (pos 0) ++ zero9) ∷ [])
     ++ each 13 2
     (setTo (row 9 0 1 (pos 0) ++ zero9) ∷ setTo (row 10 0 1 (pos 0) ++ zero9) ∷ setTo (row 11 0 0 (pos 0)) ∷ setTo (row 12 0 0 (pos 0)) ∷ setTo (row 12 0 2 (pos 0) ++ zero9) ∷ [])
+    -- the operand of a spawn, of one operator and of two that stops short
+    ++ each 13 2 (procedureOf (row 6 8 2 (pos 0) ++ zero9 ++ zero9) ∷ [])
+    ++ each 13 3 (setTo (row 12 0 2 (pos 0) ++ zero9 ++ zero9) ∷ [])
+    ++ each 13 4 (setTo (row 11 0 3 (pos 0) ++ zero9 ++ zero9 ++ zero9) ∷ [])
+    -- what stands behind an expression of two records: a statement, the body of an if, a second operand
+    ++ each 12 4 (procedureOf (row 3 0 2 (pos 0) ++ not9 ++ zero9) ∷ procedureOf (row 4 0 3 (pos 0) ++ not9 ++ zero9) ∷ [])
+    ++ each 12 5 (setTo (row 11 0 3 (pos 0) ++ not9 ++ row 2 0 0 (pos 0)) ∷ [])
+    ++ each 12 0 (row 0 0 0 (pos 0) ∷ row 2 0 0 (pos 0) ∷ [])
     ++ each 12 1 (procedureOf (row 0 0 0 (pos 0)) ∷ procedureOf (row 1 0 0 (pos 0)) ∷ procedureOf (row 13 0 0 (pos 0)) ∷ [])
     ++ each 12 2 (setTo (row 8 0 0 (pos 0)) ∷ setTo (row 13 0 0 (pos 0)) ∷ [])
     ++ each 17 1 (procedureOf (row 6 8 1 (pos 255) ++ zero9) ∷ [])
@@ -383,6 +401,7 @@ blocks =
     ∷ from (blockOf 9 3 0 (crowd 2 ++ task 3 3 (pos 0))) (refused rowC 22 3)
     ∷ from (blockOf 9 2 0 (crowd 1 ++ task 2 2 (pos 0))) (refused rowD 22 2)
     ∷ from (blockOf 9 2 0 (crowd 1 ++ task 1 1 (pos 0))) (refused rowE 22 2)
+    ∷ from (blockOf 9 2 0 (task 3 1 (pos 0) ++ task 3 2 (pos 0))) (refused rowC 22 2)
     ∷ from (blockOf 9 2 0 (crowd 2 ++ task 0 0 (pos 0) ++ task 0 0 (pos 1))) (refused rowE 22 4)
     ∷ from (blockOf 9 2 0 (crowd 2 ++ task 0 0 lowest)) (refused rowE 22 3)
     ∷ from (blockOf 9 2 0 (crowd 2 ++ task 0 256 (pos 0))) (refused rowE 22 3)
@@ -417,6 +436,9 @@ blocks =
     ∷ within 1000 15 twoSpawns 5 1
     ∷ within 1000 16 twoSpawns 5 2
     ∷ within 1 15 twoSpawns 1 1
+    -- skips need no room
+    ∷ within 1000 8 (procedureOf (row 2 0 0 (pos 0) ++ row 2 0 0 (pos 0))) 0 3
+    ∷ within 1000 7 (procedureOf (row 2 0 0 (pos 0) ++ row 2 0 0 (pos 0))) 5 2
     ∷ []
 
 abbrev pub rows : List Row
@@ -476,3 +498,17 @@ startPasses x o = eqb (o .number) (x .number) && eqb (o .place) (x .place) && sa
 unfoldable pub allStart : List StartRow → Bool
 allStart [] = true
 allStart (x ∷ xs) = startPasses x (startOn (x .table) (x .block)) && allStart xs
+
+-- ---- the published list
+
+-- "Returned": the numbers of the table, and those of them at which state and log are "unchanged"
+abbrev pub refusals : List ℕ
+refusals = 11 ∷ 12 ∷ 13 ∷ 14 ∷ 15 ∷ 16 ∷ 17 ∷ 21 ∷ 22 ∷ 23 ∷ []
+
+abbrev pub returned : List ℕ
+returned = 0 ∷ 1 ∷ 2 ∷ 3 ∷ 4 ∷ 5 ∷ refusals
+
+-- the numbers below n of which this holds
+abbrev pub those : (ℕ → Bool) → ℕ → List ℕ
+those holds zero = []
+those holds (suc n) = those holds n ++ cond (holds n) (n ∷ []) []

@@ -1,18 +1,21 @@
--- A recipe for which the waiting bound is tight: the main task gives way behind two tasks that take two steps a burst, a test and a suspend.
+-- A recipe for which the waiting bound is tight: the main task gives way behind two tasks that take two steps a burst, a test and a suspend; what its
+-- moments count to, and what picks make of a queue.
 -- Assumes nothing.
 use Prim.Native.Nat.{ℕ, _+_, _*_}
 use mathlib.Core.Path.{_≡_}
+use mathlib.Core.Option.{none}
 use mathlib.Core.List.{List, [], _∷_, _++_, map}
 use lib.IntN.{pos}
-use lib.ListN.{length, take, drop}
+use lib.ListN.{length, take, drop, replicate}
 use Rattle.rules.specs.Recipe.{row}
 use Rattle.rules.specs.Table.{recipeOf}
-use Rattle.rules.specs.State.{Task, fresh}
+use Rattle.rules.specs.State.{Task, State, fresh}
 use Rattle.rules.specs.Scheduler.{Rules, paused}
 use Rattle.rules.specs.Steps.{recipes}
 use Rattle.rules.specs.Moments.{Call, call, budgets, Moment, trace}
-use Rattle.rules.specs.Fairness.{steps, records, endings, until, longest, Waiting, TakenWithin}
+use Rattle.rules.specs.Fairness.{steps, records, endings, until, longest, Waiting, TakenWithin, pull, tryFirst, afterwards}
 use Rattle.rules.specs.Demand.{givenOut, times}
+use Rattle.rules.specs.Trial.{rowC}
 
 abbrev pub table : List ℕ
 table =
@@ -43,7 +46,28 @@ ahead = at 2 7 ∷ at 3 7 ∷ []
 abbrev pub main : Task ℕ
 main = at 1 6
 
--- What the moments of these calls count to.
+-- Three tasks of row C, which wait for a number never issued: a stuck state.
+abbrev pub waiters : Rules
+waiters = recipes (recipeOf rowC)
+
+abbrev pub allWait : State
+allWait = record {
+  store = record { issued = 3; variables = replicate 64 (pos 0) };
+  active = none;
+  queue = at 1 1 ∷ at 2 1 ∷ at 3 1 ∷ [];
+}
+
+abbrev pub numbers : List (Task ℕ) → List ℕ
+numbers ts = map (λ t. t .number) ts
+
+-- their queue with the i-th in front, and after the try of it
+abbrev pub picked : ℕ → List ℕ
+picked i = numbers (pull waiters i (allWait .queue))
+
+abbrev pub afterPick : ℕ → List ℕ
+afterPick i = numbers (afterwards waiters allWait (tryFirst waiters allWait (pull waiters i (allWait .queue))) .queue)
+
+-- What the moments of these calls count to, and what picks make of a queue.
 pub record Counts : Type 0 where
   -- "Budgets count from the moment on: what its call then has left and those of later calls": 26 in all, one less with each step, none where a call ends
   pub left : map (λ m. budgets (m .calls)) (take 12 moments) ≡ 26 ∷ 25 ∷ 24 ∷ 23 ∷ 23 ∷ 22 ∷ 21 ∷ 20 ∷ 20 ∷ 20 ∷ 19 ∷ 18 ∷ []
@@ -52,6 +76,9 @@ pub record Counts : Type 0 where
   pub given-out : givenOut (records rules moments) ≡ 2 ∷ 3 ∷ []
   pub often : times 2 (2 ∷ 3 ∷ 2 ∷ []) ≡ 2
   pub ended : endings rules moments ≡ paused ∷ paused ∷ paused ∷ paused ∷ []
+  -- "let any queued task be picked and tried in place of the front": it stands in front of the others, and is turned behind them
+  pub picks : map picked (0 ∷ 1 ∷ 2 ∷ []) ≡ (1 ∷ 2 ∷ 3 ∷ []) ∷ (2 ∷ 1 ∷ 3 ∷ []) ∷ (3 ∷ 1 ∷ 2 ∷ []) ∷ []
+  pub turned : map afterPick (0 ∷ 1 ∷ 2 ∷ []) ≡ (2 ∷ 3 ∷ 1 ∷ []) ∷ (1 ∷ 3 ∷ 2 ∷ []) ∷ (1 ∷ 2 ∷ 3 ∷ []) ∷ []
 
 -- It waits as the bound asks, with bursts of at most 2 steps, and is taken up at step 2 * (2 + 1) + 1 exactly.
 pub record Tight : Type 0 where
