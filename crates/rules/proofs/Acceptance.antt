@@ -1,11 +1,16 @@
 -- Every row of the trial press's table holds, the published list, and what the witness counts to, computed by the definitions.
 -- (They need no law, so that a definition that is wrong fails here before any lemma about it.)
 -- Assumes nothing.
-use mathlib.Core.Path.{_≡_, refl}
-use mathlib.Core.Bool.{true}
+use Prim.Native.Nat.{ℕ}
+use mathlib.Core.Path.{_≡_, refl, ap}
+use mathlib.Core.Bool.{Bool, true, false, true≢false}
+use mathlib.Core.Option.{none, some}
+use native.Mathlib.Omega.{arith}
+use Rattle.rules.specs.State.{State}
+use Rattle.rules.specs.Scheduler.{Next, finish, jam, bar, goes}
 use Rattle.rules.specs.Answers.{refuses, published}
 use Rattle.rules.specs.Trial.{rows, startRows, outcomeOf, allPass, allStart, refusals, returned, those}
-use Rattle.rules.specs.Witness.{moments, Counts}
+use Rattle.rules.specs.Witness.{rules, moments, Counts, NoChain}
 use Rattle.rules.proofs.Computed.{meaning}
 
 pub rows-hold : allPass rows ≡ true
@@ -25,4 +30,32 @@ refusals-are = refl
 
 pub witness-counts : Counts
 unfolding meaning moments
-witness-counts = record { left = refl; bursts = refl; given-out = refl; often = refl; ended = refl; picks = refl; turned = refl }
+witness-counts = record {
+  left = refl;
+  bursts = refl;
+  given-out = refl;
+  often = refl;
+  ended = refl;
+  in-turn = refl;
+  put-back = refl;
+  try-of = refl {a = 1};
+  no-try = refl {a = 0};
+  next-try = refl {a = 1};
+  picks = refl;
+  turned = refl;
+}
+
+-- a step with an event comes next
+tells : Next rules → Bool
+tells finish = false
+tells jam = false
+tells (bar k) = false
+tells (goes none c) = false
+tells (goes (some x) c) = true
+
+pub no-chain : NoChain
+unfolding meaning tells
+no-chain = record {
+  elsewhere = λ e. let z : _≡_ {A = ℕ} 1 3 = ap (λ (c : State). c .store .issued) e in omega arith;
+  another = λ c h. true≢false (ap tells (h .1 .1));
+}

@@ -12,8 +12,8 @@ use Rattle.rules.specs.Table.{recipeOf}
 use Rattle.rules.specs.State.{Task, State, fresh}
 use Rattle.rules.specs.Scheduler.{Rules, paused}
 use Rattle.rules.specs.Steps.{recipes}
-use Rattle.rules.specs.Moments.{Call, call, budgets, Moment, trace}
-use Rattle.rules.specs.Fairness.{steps, records, endings, until, longest, Waiting, TakenWithin, pull, tryFirst, afterwards}
+use Rattle.rules.specs.Moments.{Call, call, budgets, made, Moment, trace}
+use Rattle.rules.specs.Fairness.{steps, records, endings, Linked, tries, Tries, NoTry, aheads, until, longest, Waiting, TakenWithin, pull, tryFirst, afterwards}
 use Rattle.rules.specs.Demand.{givenOut, times}
 use Rattle.rules.specs.Trial.{rowC}
 
@@ -46,6 +46,11 @@ ahead = at 2 7 ∷ at 3 7 ∷ []
 abbrev pub main : Task ℕ
 main = at 1 6
 
+-- at the first of these moments the task n is tried
+abbrev pub TriesFirst : (n : ℕ) → List (Moment rules) → Type 0
+TriesFirst n [] = ⊥
+TriesFirst n (m ∷ ms) = Tries rules n m
+
 -- Three tasks of row C, which wait for a number never issued: a stuck state.
 abbrev pub waiters : Rules
 waiters = recipes (recipeOf rowC)
@@ -76,9 +81,21 @@ pub record Counts : Type 0 where
   pub given-out : givenOut (records rules moments) ≡ 2 ∷ 3 ∷ []
   pub often : times 2 (2 ∷ 3 ∷ 2 ∷ []) ≡ 2
   pub ended : endings rules moments ≡ paused ∷ paused ∷ paused ∷ paused ∷ []
+  -- the tasks tried, in their order, and those ahead of task 2 each time that it is put back
+  pub in-turn : numbers (tries rules moments) ≡ 2 ∷ 3 ∷ 1 ∷ 2 ∷ 3 ∷ 2 ∷ 3 ∷ 2 ∷ []
+  pub put-back : map numbers (aheads rules 2 moments) ≡ (3 ∷ 1 ∷ []) ∷ (3 ∷ []) ∷ (3 ∷ []) ∷ (3 ∷ []) ∷ []
+  -- two successive tries of task 2, with a pause and a call without budget between them
+  pub try-of : TriesFirst 2 (drop 4 moments)
+  pub no-try : NoTry rules 2 (take 9 (drop 5 moments))
+  pub next-try : TriesFirst 2 (drop 14 moments)
   -- "let any queued task be picked and tried in place of the front": it stands in front of the others, and is turned behind them
   pub picks : map picked (0 ∷ 1 ∷ 2 ∷ []) ≡ (1 ∷ 2 ∷ 3 ∷ []) ∷ (2 ∷ 1 ∷ 3 ∷ []) ∷ (3 ∷ 1 ∷ 2 ∷ []) ∷ []
   pub turned : map afterPick (0 ∷ 1 ∷ 2 ∷ []) ≡ (2 ∷ 3 ∷ 1 ∷ []) ∷ (1 ∷ 3 ∷ 2 ∷ []) ∷ (1 ∷ 2 ∷ 3 ∷ []) ∷ []
+
+-- What is no chain of steps by the rules: no step at all from one state to another; a step without an event where the next one, a spawn, has one.
+pub record NoChain : Type 0 where
+  pub elsewhere : ¬ Linked rules [] fresh allWait
+  pub another : (c : State) → ¬ Linked rules (record { at = fresh; calls = []; what = made none } ∷ []) fresh c
 
 -- It waits as the bound asks, with bursts of at most 2 steps, and is taken up at step 2 * (2 + 1) + 1 exactly.
 pub record Tight : Type 0 where
