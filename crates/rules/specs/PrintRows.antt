@@ -6,7 +6,8 @@ use mathlib.Core.List.{List, [], _∷_, _++_}
 use lib.IntN.{pos, negsuc}
 use Rattle.rules.specs.Recipe.{row}
 use Rattle.rules.specs.Trial.{rowA, rowC, same}
-use Rattle.rules.specs.Print.{bytes, line, endingLine, printed}
+use Rattle.rules.specs.Run.{Outcome}
+use Rattle.rules.specs.Print.{bytes, line, endingLine, runText, printed}
 
 pub record Row : Type 0 where
   pub table : List ℕ
@@ -39,11 +40,16 @@ rows =
     ∷ prints (row 1 0 2 (pos 0) ++ row 3 0 2 (pos 0) ++ row 9 0 0 (pos 0)) (bytes "refused 13 1\n")
     ∷ []
 
--- the words of every kind and of every ending, with values of both signs
+-- a run's answer with the log of two records, of which so many were written
+abbrev pub answer : (number records place : ℕ) → Outcome
+answer n k i = record { number = n; steps = 4096; records = k; place = i; block = []; log = row 7 3 4 (negsuc 9) ++ row 6 0 4 (pos 0) }
+
+-- the words of every kind and of every ending, with values of both signs; the last ending and the first refusal, whole
 abbrev pub words : List ℕ
 words =
     line 1 1 0 (pos 2) ++ line 2 65535 0 (pos 0) ++ line 3 10 0 (pos 0) ++ line 4 9 0 (negsuc 0) ++ line 5 100 0 (pos 2147483647) ++ line 6 99 0 (pos 0)
     ++ line 7 4 3 (negsuc 9) ++ endingLine 0 0 ++ endingLine 1 10000 ++ endingLine 2 1 ++ endingLine 3 63 ++ endingLine 4 393205 ++ endingLine 5 4096
+    ++ runText (answer 5 1 0) ++ runText (answer 11 0 3)
 
 abbrev pub texts : List ℕ
 texts =
@@ -60,6 +66,9 @@ texts =
     ++ bytes "tasks 63\n"
     ++ bytes "spent 393205\n"
     ++ bytes "logfull 4096\n"
+    ++ bytes "valve 4 3 -10\n"
+    ++ bytes "logfull 4096\n"
+    ++ bytes "refused 11 3\n"
 
 unfoldable pub allPrint : List Row → Bool
 allPrint [] = true
