@@ -28,7 +28,7 @@ use Rattle.state.specs.View.{view}
 use Rattle.runner.specs.declared.Answer.{Answer}
 use Rattle.runner.specs.declared.Started.{Started}
 use Rattle.runner.specs.declared.drive.Ran.{Ran}
-use Rattle.runner.specs.Along.{endingOf}
+use Rattle.count.specs.Along.{endingOf}
 use Rattle.runner.specs.Drive.{Drives}
 use Rattle.runner.specs.Calls.{startedOf, outcomeOf, Called, called, result, madeOf, Contract, Calls, MeetsDemand, ContinuesAsOne}
 

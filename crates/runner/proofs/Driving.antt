@@ -13,20 +13,20 @@ use Rattle.rules.specs.Scheduler.{nextAct, next}
 use Rattle.rules.specs.Steps.{recipes, goTo, pastAt}
 use Rattle.state.specs.declared.State.{State}
 use Rattle.state.specs.View.{taskOf, entry, queueOf, view, Fine, takeUp, turn}
-use Rattle.step.specs.declared.moves.Move.{Move}
-use Rattle.step.specs.Ready.{idle}
-use Rattle.step.specs.Linked.{Linked}
-use Rattle.step.specs.Moves.{Moves}
-use Rattle.runner.specs.declared.count.Count.{Count}
-use Rattle.runner.specs.declared.count.Stop.{Stop}
-use Rattle.runner.specs.Along.{endingOf, isMore, Along, Ended, Told}
-use Rattle.runner.specs.Active.{leaves, busy, Active, stepOf, Leaving, Made}
-use Rattle.runner.specs.Idle.{Idling, Taking, tookUp, Tries}
+use Rattle.moves.specs.declared.Move.{Move}
+use Rattle.ready.specs.Ready.{idle}
+use Rattle.links.specs.Linked.{Linked}
+use Rattle.moves.specs.Moves.{Moves}
+use Rattle.count.specs.declared.Count.{Count}
+use Rattle.count.specs.declared.Stop.{Stop}
+use Rattle.count.specs.Along.{endingOf, isMore, Along, Ended, Told}
+use Rattle.active.specs.Active.{leaves, busy, Active, stepOf, Leaving, Made}
+use Rattle.idle.specs.Idle.{Idling, Taking, tookUp, Tries}
 use Rattle.runner.specs.Drive.{Driving, call, Drives}
-use Rattle.runner.proofs.Along.{along-start}
-use Rattle.runner.proofs.Acting.{queue-length}
-use Rattle.runner.proofs.Trying.{first, first-entry, placed-at}
-use Rattle.runner.proofs.Stops.{more-none, ends-of}
+use Rattle.count.proofs.Along.{along-start}
+use Rattle.state.proofs.Views.{queue-length}
+use Rattle.idle.proofs.Trying.{first, first-entry, placed-at}
+use Rattle.count.proofs.Stops.{more-none, ends-of}
 
 -- the state as the code holds it, by whether a task is active
 abbrev pub busyOf : State → R.State

@@ -1,9 +1,2 @@
-pub mod Stops
-pub mod Along
-pub mod Deciding
-pub mod Acting
-pub mod Turning
-pub mod Proceeding
-pub mod Trying
 pub mod Driving
 pub mod Calling

@@ -11,9 +11,9 @@ use Rattle.rules.specs.Run.{roomOf}
 use Rattle.rules.proofs.Fit.{Fit}
 use Rattle.state.specs.declared.State.{State}
 use Rattle.state.specs.View.{view, Fine}
-use Rattle.step.specs.Linked.{Linked}
+use Rattle.links.specs.Linked.{Linked}
 use Rattle.runner.specs.declared.drive.Ran.{Ran}
-use Rattle.runner.specs.Along.{endingOf, Ended}
+use Rattle.count.specs.Along.{endingOf, Ended}
 
 -- an accepted table, its links, and an accepted state
 pub record Driving (table next starts : List ℕ) (s : State) : Type 0 where

@@ -1,5 +1,2 @@
-pub mod Along
-pub mod Active
-pub mod Idle
 pub mod Drive
 pub mod Calls

@@ -1,11 +1,10 @@
 // A run call: what it refuses, and what it does with a table and a state block that are accepted.
 use crate::Answer;
-use crate::count::Stop;
 use crate::drive::drive;
-use state::block;
+use count::Stop;
+use links::links;
 use table::check::Verdict;
 use table::check::check_table;
-use table::links::links;
 ghost use mathlib.Core.Path.{_≡_};
 ghost use mathlib.Core.Bool.{false};
 ghost use mathlib.Core.Option.{some, Option·map};
@@ -16,7 +15,7 @@ ghost use Rattle.rules.specs.Scheduler.{numberOf, run};
 ghost use Rattle.rules.specs.Steps.{recipes};
 ghost use Rattle.rules.specs.Run.{roomOf, outcome};
 ghost use Rattle.table.specs.Check.{verdictOf};
-ghost use Rattle.runner.specs.Along.{endingOf, isMore};
+ghost use Rattle.count.specs.Along.{endingOf, isMore};
 ghost use Rattle.runner.specs.Calls.{outcomeOf};
 
 // The table first, then the block.

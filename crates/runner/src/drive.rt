@@ -1,13 +1,13 @@
 // The steps of a run call, until it stops.
-use crate::active::made;
-use crate::active::proceed;
-use crate::count::Count;
-use crate::count::Stop;
-use crate::count::is_more;
-use crate::idle::try_all;
+use active::made;
+use active::proceed;
+use count::Count;
+use count::Stop;
+use count::is_more;
+use idle::try_all;
+use ready::past;
 use state::State;
 use state::unpack;
-use step::ready::past;
 ghost use mathlib.Core.Path.{_≡_};
 ghost use mathlib.Core.Bool.{false};
 ghost use Prim.Native.Nat.{ℕ, _<_};
@@ -16,7 +16,7 @@ ghost use Rattle.rules.specs.Places.{at};
 ghost use Rattle.rules.specs.State as R;
 ghost use Rattle.rules.specs.Steps.{goTo, pastAt};
 ghost use Rattle.state.specs.View.{entry, view, Fine, takeUp, turn};
-ghost use Rattle.runner.specs.Idle.{Taking};
+ghost use Rattle.idle.specs.Idle.{Taking};
 ghost use Rattle.runner.specs.Drive.{Driving, Drives};
 
 // Why a call stopped, its count, and the state that it leaves.

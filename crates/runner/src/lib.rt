@@ -1,13 +1,9 @@
 // The recipe runner: start a recipe and run it.
-pub mod active;
 pub mod call;
-pub mod count;
 pub mod drive;
-pub mod idle;
 
 use crate::call::carry_out;
 use crate::call::verdict;
-use state::block;
 use state::fresh;
 use table::check::check_table;
 ghost use mathlib.Core.Path.{_≡_};

@@ -1,6 +1,4 @@
 pub mod Ring
 pub mod Packed
 pub mod Told
-pub mod Checking
-pub mod Reading
-pub mod Writing
+pub mod Views

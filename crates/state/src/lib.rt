@@ -1,5 +1,4 @@
 // The state of a run, by value.
-pub mod block;
 
 use values::signed;
 use values::unsigned;

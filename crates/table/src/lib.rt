@@ -1,4 +1,3 @@
 // Recipe tables: the records of a table part, the check of a whole table, and where each statement leads.
 pub mod check;
-pub mod links;
 pub mod record;

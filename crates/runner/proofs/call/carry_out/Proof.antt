@@ -7,8 +7,8 @@ use Rattle.rules.specs.Scheduler.{run}
 use Rattle.rules.specs.Steps.{recipes}
 use Rattle.rules.specs.Run.{roomOf, outcome}
 use Rattle.rules.proofs.Blocks.{fit-read}
-use Rattle.step.proofs.Links.{links-are}
-use Rattle.runner.specs.Along.{goesOn}
+use Rattle.links.proofs.Leading.{links-are}
+use Rattle.count.specs.Along.{goesOn}
 use Rattle.runner.proofs.Calling.{head-fits, records-fit, answers}
 use borrow.Author.Needs.{needs}
 use Rattle.runner.proofs.call.carry_out.Statement.{statement}

@@ -3,8 +3,8 @@ use mathlib.Core.Path.{_≡_, refl, sym, ap, _∙_, subst⁻¹}
 use mathlib.Core.Bool.{true≢false}
 use mathlib.Core.Option.{some, Option·map}
 use Rattle.rules.specs.Scheduler.{numberOf}
-use Rattle.runner.specs.declared.count.Stop.{Stop}
-use Rattle.runner.specs.Along.{endingOf, isMore}
+use Rattle.count.specs.declared.Stop.{Stop}
+use Rattle.count.specs.Along.{endingOf, isMore}
 use borrow.Author.Needs.{needs}
 use Rattle.runner.proofs.call.number_of.Statement.{statement}
 use Rattle.runner.proofs.call.number_of.Tie as tie

@@ -2,15 +2,15 @@ use Prim.Native.Nat.{_-_}
 use mathlib.Core.Path.{_≡_, refl, sym, _∙_}
 use native.Mathlib.Omega.{arith}
 use borrow.Author.Tests.{not-true, not-false}
-use Rattle.runner.proofs.Acting.{queue-length}
-use Rattle.runner.proofs.Along.{log-keeps}
+use Rattle.state.proofs.Views.{queue-length}
+use Rattle.count.proofs.Along.{log-keeps}
 use mathlib.Core.Bool.{true}
 use mathlib.Core.List.{List}
 use lib.IntN.{ℤ}
 use Rattle.state.specs.declared.Task.{Task}
 use Rattle.state.specs.declared.State.{State}
 use Rattle.state.specs.View.{queueOf}
-use Rattle.runner.specs.Along.{isMore}
+use Rattle.count.specs.Along.{isMore}
 use Rattle.runner.proofs.Driving.{Driven, Came, Tried, driven-start, along-busy, along-idle, to-proceed, to-try, to-take, came-ends, came-leaves, came-on, came-further, tried-ends, tried-inside, tried-on, tried-further}
 use Rattle.runner.proofs.drive.drive.Statement.{statement}
 use Rattle.runner.proofs.drive.drive.Tie as tie

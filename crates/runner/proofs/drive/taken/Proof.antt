@@ -1,7 +1,7 @@
 use lib.ListN.{length}
 use Rattle.state.specs.View.{queueOf}
-use Rattle.runner.proofs.Acting.{queue-length, none-active}
-use Rattle.runner.proofs.Turning.{turned-length}
+use Rattle.state.proofs.Views.{queue-length, none-active}
+use Rattle.idle.proofs.Turning.{turned-length}
 use mathlib.Core.Path.{refl, sym, ap, _∙_}
 use native.Mathlib.Omega.{arith}
 use Rattle.state.specs.View.{takeUp, turn}

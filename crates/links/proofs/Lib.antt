@@ -1,0 +1,4 @@
+pub mod Linking
+pub mod Procedures
+pub mod Lookup
+pub mod Leading

@@ -1,0 +1,116 @@
+use mathlib.Core.Logic.{_⊎_, inl, inr, dite}
+use mathlib.Core.Path.{_≡_, _∙_}
+use native.Mathlib.Decide.{ℕ-discrete}
+use native.Mathlib.Omega.{arith}
+use lib.IntN.{ℤ}
+use borrow.Author.Needs.{needs}
+use Rattle.rules.specs.Recipe.{read, value}
+use Rattle.rules.specs.Table.{kindOf, nameOf, inner, exprOf}
+use Rattle.values.proofs.Exact.{fits32, applied1}
+use Rattle.state.specs.View.{taskOf}
+use Rattle.moves.proofs.Acting.{skip-moves, give-moves, wait-moves, set-moves, spawn-moves, test-moves}
+use Rattle.moves.proofs.statement.Statement.{statement}
+use Rattle.moves.proofs.statement.Tie as tie
+
+-- the value of the statement's expression, by the task's parameter
+abbrev valued : tie.Start → ℤ → ℤ
+valued c z = value (record { variables = c .args .variables .now; parameter = z }) (exprOf (inner (c .args .part .now)))
+
+tested : (c : tie.At-match-rest)
+    → let p = c .before .before .before .before .args .part .now in (kindOf p ≡ 4) ⊎ (kindOf p ≡ 5)
+tested c = dite (ℕ-discrete (kindOf (c .before .before .before .before .args .part .now)) 4) inl (λ n. inr (omega arith))
+
+shared-slice-read-kind : tie.Need-shared-slice-read-kind
+shared-slice-read-kind c = search needs
+
+shared-slice-read-name : tie.Need-shared-slice-read-name
+shared-slice-read-name c = search needs
+
+value-of-requires : tie.Need-value-of-requires
+value-of-requires c κs = search needs
+
+value-of-requires-2 : tie.Need-value-of-requires-2
+value-of-requires-2 c κs = search needs
+
+start-of-requires : tie.Need-start-of-requires
+start-of-requires c κs = search needs
+
+variable-requires : tie.Need-variable-requires
+variable-requires c κs = search needs
+
+value-of-requires-3 : tie.Need-value-of-requires-3
+value-of-requires-3 c κs = search needs
+
+branch-requires : tie.Need-branch-requires
+branch-requires c κs = search needs
+
+returns : tie.Need-returns
+returns c =
+    let a = c .before .before .before .before .args in
+    λ begin b. skip-moves begin _ (taskOf (a .t)) (a .part .now) (a .place) (a .follow) (c .match .keys1)
+
+returns-2 : tie.Need-returns-2
+returns-2 c =
+    let k = c .before .before in
+    let s = k .before .before .before .before in
+    let a = s .args in
+    let f = fits32 (c .before .struct-told .given .1 .1 .0 .1) in
+    let z = applied1 (valued s) f (c .value-of .ok) (c .value-of .ensures) in
+    let w = s .pre .0 .stands .named in
+    λ begin b. set-moves begin _ (taskOf (a .t)) (a .part .now) (a .place) (a .follow) _ z (k .match .keys2) w
+
+returns-3 : tie.Need-returns-3
+returns-3 c =
+    let v = c .before in
+    let k = v .before .before in
+    let s = k .before .before .before .before in
+    let a = s .args in
+    let f = fits32 (v .before .struct-told2 .given .1 .1 .0 .1) in
+    let z = applied1 (valued s) f (v .value-of2 .ok) (v .value-of2 .ensures) in
+    let w = s .pre .0 .stands .named in
+    let h = k .match .keys3 in
+    λ begin b.
+    spawn-moves begin _ (taskOf (a .t)) (a .part .now) (a .place) (a .follow) _ z _ h w (c .start-of .ensures ∙ b h)
+
+returns-4 : tie.Need-returns-4
+returns-4 c =
+    let a = c .before .before .before .before .args in
+    λ begin b. give-moves begin _ (taskOf (a .t)) (a .part .now) (a .place) (a .follow) (c .match .keys4)
+
+returns-5 : tie.Need-returns-5
+returns-5 c =
+    let k = c .before .before in
+    let s = k .before .before .before .before in
+    let a = s .args in
+    let named : ℤ → ℤ = λ z. read (record { variables = a .variables .now; parameter = z }) (nameOf (a .part .now)) in
+    let z = applied1 named (fits32 (c .before .struct-told3 .given .1 .1 .0 .1)) (c .variable .ok) (c .variable .ensures) in
+    λ begin b. wait-moves begin _ (taskOf (a .t)) (a .part .now) (a .place) (a .follow) _ (k .match .keys5) z
+
+returns-6 : tie.Need-returns-6
+returns-6 c =
+    let v = c .before in
+    let k = v .before .before in
+    let s = k .before .before .before .before in
+    let a = s .args in
+    let f = fits32 (v .before .struct-told4 .given .1 .1 .0 .1) in
+    let z = applied1 (valued s) f (v .value-of3 .ok) (v .value-of3 .ensures) in
+    λ begin b. test-moves begin _ (taskOf (a .t)) (a .part .now) (a .place) (a .follow) _ z _ (tested k) (c .branch .ensures)
+
+pub statement-spec : {M : Type 1} → statement M
+statement-spec =
+    tie.close
+    (tie.spec
+    shared-slice-read-kind
+    shared-slice-read-name
+    value-of-requires
+    value-of-requires-2
+    start-of-requires
+    variable-requires
+    value-of-requires-3
+    branch-requires
+    returns
+    returns-2
+    returns-3
+    returns-4
+    returns-5
+    returns-6)

@@ -1,6 +1,0 @@
-pub mod Queue
-pub mod There
-pub mod Parts
-pub mod Acting
-pub mod Links
-pub mod Telling

@@ -1,4 +1,0 @@
-pub mod Ready
-pub mod Linked
-pub mod Moves
-pub mod Events
