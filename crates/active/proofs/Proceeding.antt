@@ -1,8 +1,9 @@
 -- The active task on its way: from one of its steps to the next, and where it stops.
 -- Assumes nothing.
 use Prim.Native.Nat.{ℕ, _+_, _-_, _/_, _≤_, _<_}
-use mathlib.Core.Path.{_≡_, refl, sym, ap, _∙_, subst}
-use mathlib.Core.Bool.{true, false, false≢true}
+use mathlib.Core.Path.{_≡_, refl, sym, ap, _∙_, subst, subst⁻¹}
+use mathlib.Core.Bool.{true, false}
+use mathlib.Core.Option.{none}
 use mathlib.Core.List.{List}
 use native.Mathlib.Omega.{arith}
 use lib.IntN.{ℤ}
@@ -17,8 +18,9 @@ use Rattle.moves.specs.Moves.{actOf, storeWith, MovesIn}
 use Rattle.count.specs.declared.Count.{Count}
 use Rattle.count.specs.declared.Stop.{Stop}
 use Rattle.count.specs.Along.{endingOf, isMore, Along, Decides, Told, Reached}
-use Rattle.active.specs.Active.{leaves, busy, Local}
-use Rattle.count.proofs.Stops.{more-none, stop-not-more}
+use Rattle.active.specs.Active.{leaves, busy, leftBy, Local, Room, Left}
+use Rattle.active.proofs.Acting.{stays, roomy}
+use Rattle.count.proofs.Stops.{more-none, ends-of}
 use Rattle.count.proofs.Along.{told, one-more, written-fits}
 
 -- ---- where the task has come to
@@ -71,14 +73,42 @@ module _ {r : Recipe} {budget queued issued : ℕ} {t₀ t : Task ℕ} {v₀ v :
     pub further : (q : List (Task ℕ)) → length q ≡ queued → isMore stop ≡ true → n₀ .steps < n′ .steps
     further q l h = let g = i .grows in omega (arith, counted q l h)
 
-    -- after a step that does not leave
-    pub again : Within r → (q : List (Task ℕ)) → length q ≡ queued → (t′ : Task ℕ) (v′ : List ℤ) → isMore stop ≡ true → leaves m ≡ false → Local m t t′ v v′ → length log′ ≡ length log
-        → Running r budget queued issued t₀ v₀ n₀ log₀ t′ v′ n′ log′
-    again w q₀ l₀ t′ v′ h away f e =
-        record {
-          along = λ u given q l a.
-              let (x, c, g, a′) = subst (Told r u budget given n′ log′ (busy issued v t q)) (more-none stop h) (told-all w u given q l a) in
-              subst (Along r u budget given n′ log′) (f away r issued q x c (sym (acts q) ∙ g)) a′;
-          same-length = e ∙ i .same-length;
-          grows = let g = i .grows in omega (arith, counted q₀ l₀ h);
-        }
+    -- where the call stops
+    pub ends-all : Within r → isMore stop ≡ false → (u : Run (recipes r)) (given : List ℕ) (q : List (Task ℕ)) → length q ≡ queued
+        → Along r u budget given n₀ log₀ (busy issued v₀ t₀ q) → Left r u budget given n′ log′ m (busy issued v t q) (endingOf stop)
+    ends-all w h u given q l a =
+        let (e, g) = ends-of stop h in
+        subst⁻¹ (Left r u budget given n′ log′ m (busy issued v t q)) g (subst (Told r u budget given n′ log′ (busy issued v t q)) g (told-all w u given q l a))
+
+    module _ (w : Within r) (h : isMore stop ≡ true) where
+      made : (u : Run (recipes r)) (given : List ℕ) (q : List (Task ℕ)) → length q ≡ queued → Along r u budget given n₀ log₀ (busy issued v₀ t₀ q)
+          → Told r u budget given n′ log′ (busy issued v t q) none
+      made u given q l a = subst (Told r u budget given n′ log′ (busy issued v t q)) (more-none stop h) (told-all w u given q l a)
+
+      -- no limit barred the step
+      pub has-room : (q : List (Task ℕ)) → length q ≡ queued → Reached r budget n₀ log₀ (busy issued v₀ t₀ q) → Room m queued issued
+      has-room q l a =
+          let (x, c, g, a′) = made (a .call) (a .given) q l (a .along) in
+          subst (λ (k : ℕ). Room m k issued) l (roomy r q x c issued v t m (sym (acts q) ∙ g))
+
+      -- with what the move makes of the task and the variables
+      module _ (t′ : Task ℕ) (v′ : List ℤ) (f : Local m issued t t′ v v′) where
+        on : (u : Run (recipes r)) (given : List ℕ) (q : List (Task ℕ)) → length q ≡ queued → Along r u budget given n₀ log₀ (busy issued v₀ t₀ q)
+            → Along r u budget given n′ log′ (leftBy m (busy issued v′ t′ q))
+        on u given q l a =
+            let (x, c, g, a′) = made u given q l a in
+            subst⁻¹ (Along r u budget given n′ log′) (f r q x c (sym (acts q) ∙ g)) a′
+
+        pub leaves-all : (u : Run (recipes r)) (given : List ℕ) (q : List (Task ℕ)) → length q ≡ queued → Along r u budget given n₀ log₀ (busy issued v₀ t₀ q)
+            → Left r u budget given n′ log′ m (busy issued v′ t′ q) (endingOf stop)
+        leaves-all u given q l a = subst⁻¹ (Left r u budget given n′ log′ m (busy issued v′ t′ q)) (more-none stop h) (on u given q l a)
+
+        -- after a step that does not leave
+        pub again : (q : List (Task ℕ)) → length q ≡ queued → leaves m ≡ false → length log′ ≡ length log
+            → Running r budget queued issued t₀ v₀ n₀ log₀ t′ v′ n′ log′
+        again q₀ l₀ away e =
+            record {
+              along = λ u given q l a. subst (Along r u budget given n′ log′) (stays m (busy issued v′ t′ q) away) (on u given q l a);
+              same-length = e ∙ i .same-length;
+              grows = let g = i .grows in omega (arith, counted q₀ l₀ h);
+            }

@@ -23,6 +23,13 @@ pub struct Count {
     pub written: usize,
 }
 
+// What the tests before a step go by, besides the log: the tasks queued, the number issued last, and the budget.
+pub struct Bounds {
+    pub queued: usize,
+    pub issued: u16,
+    pub budget: u32,
+}
+
 // The name of a stop, or that the run goes on.
 pub enum Stop {
     More,

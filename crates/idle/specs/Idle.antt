@@ -2,22 +2,19 @@
 -- Assumes nothing.
 use Prim.Native.Nat.{ℕ, _+_, _*_, _≤_, _<_}
 use mathlib.Core.Path.{_≡_}
-use mathlib.Core.Bool.{true}
 use mathlib.Core.Option.{Option, none, some}
 use mathlib.Core.List.{List, [], _∷_}
 use lib.IntN.{ℤ, pos}
 use lib.ListN.{length}
 use Rattle.rules.specs.Recipe.{Recipe}
 use Rattle.rules.specs.Table.{fine, check, recipeOf}
-use Rattle.rules.specs.Places.{at, isPlace}
+use Rattle.rules.specs.Places.{at}
 use Rattle.rules.specs.State as R
 use Rattle.rules.specs.Scheduler.{Ending, Run}
 use Rattle.rules.specs.Steps.{recipes, pastAt}
-use Rattle.state.specs.View.{entry}
 use Rattle.ready.specs.declared.Wait.{Wait}
 use Rattle.ready.specs.declared.Wait.the-variants.{Ready, Waits}
 use Rattle.ready.specs.Ready.{idle, aheadIn, Waiting}
-use Rattle.links.specs.Linked.{Leads}
 use Rattle.count.specs.declared.Count.{Count}
 use Rattle.count.specs.Along.{Along, Ended, Reached}
 
@@ -39,14 +36,6 @@ pub record Idling (table queue : List ℕ) (variables : List ℤ) (front queued 
   pub accepted : check table ≡ fine
   pub front-fits : front < 32
   pub reached : Reached (recipeOf table) budget n log (idle issued variables queue front queued)
-
--- the queued task k stands at a place of an accepted table, with the links of the table at hand
-pub record Taking (table next queue : List ℕ) (front k : ℕ) : Type 0 where
-  pub accepted : check table ≡ fine
-  pub leads : Leads (recipeOf table) next
-  pub front-fits : front < 32
-  pub few : k < 32
-  pub placed : isPlace (recipeOf table) (entry queue front k .place) ≡ true
 
 -- the front becomes active, past its await if it stood at one
 abbrev pub tookUp : Recipe → List (R.Task ℕ) → R.State → R.State

@@ -1,4 +1,5 @@
 // The tries with no task active: the first ready task is looked for once, those before it are turned, and it is taken up.
+use count::Bounds;
 use count::Count;
 use count::Stop;
 use count::note;
@@ -118,16 +119,17 @@ pub fn try_all<'a>(
     queue: &'a [u64; 32],
     variables: &'a [i32; 64],
     front: usize,
-    queued: usize,
-    issued: u16,
-    budget: u32,
+    bounds: Bounds,
     log: &mut [u8],
     before: Count,
 ) -> Tried
-    requires { ⌜ Idling (now table) (now queue) (now variables) front queued issued budget (now log) before ⌝ }
-    ensures { λ r. ⌜ (r .turns ≤ queued) × (endingOf (r .stop) ≡ none → (r .turns < queued) × (before .steps < r .count .steps)) ⌝ }
-    ensures { λ r. ⌜ ((u : Run (recipes (recipeOf (now (table .entry))))) (given : List ℕ) → Along (recipeOf (now (table .entry))) u budget given before (now (log .entry)) (idle issued (now (variables .entry)) (now (queue .entry)) front queued) → Tries (recipeOf (now (table .entry))) u budget given (r .count) (now (log .exit)) (turn (r .turns) (idle issued (now (variables .entry)) (now (queue .entry)) front queued)) (endingOf (r .stop))) ⌝ }
+    requires { ⌜ Idling (now table) (now queue) (now variables) front (bounds .queued) (bounds .issued) (bounds .budget) (now log) before ⌝ }
+    ensures { λ r. ⌜ (r .turns ≤ bounds .queued) × (endingOf (r .stop) ≡ none → (r .turns < bounds .queued) × (before .steps < r .count .steps)) ⌝ }
+    ensures { λ r. ⌜ ((u : Run (recipes (recipeOf (now (table .entry))))) (given : List ℕ) → Along (recipeOf (now (table .entry))) u (bounds .budget) given before (now (log .entry)) (idle (bounds .issued) (now (variables .entry)) (now (queue .entry)) front (bounds .queued)) → Tries (recipeOf (now (table .entry))) u (bounds .budget) given (r .count) (now (log .exit)) (turn (r .turns) (idle (bounds .issued) (now (variables .entry)) (now (queue .entry)) front (bounds .queued))) (endingOf (r .stop))) ⌝ }
 {
+    let queued = bounds.queued;
+    let issued = bounds.issued;
+    let budget = bounds.budget;
     if queued == 0 {
         return Tried {
             stop: Stop::Finished,

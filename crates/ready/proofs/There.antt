@@ -2,7 +2,7 @@
 -- Assumes nothing.
 use Prim.Native.Nat.{ℕ, _+_, _*_, _≤_, _<_}
 use mathlib.Core.Path.{_≡_, refl, sym, ap, _∙_}
-use mathlib.Core.Bool.{Bool, true, false, _&&_, _||_, true≢false}
+use mathlib.Core.Bool.{Bool, true, false, _&&_, _||_, cond, true≢false}
 use mathlib.Core.List.{List}
 use mathlib.Core.Logic.{dite}
 use native.Mathlib.Decide.{decLt, ℕ-discrete}
@@ -17,12 +17,12 @@ use Rattle.rules.specs.Recipe.{read}
 use Rattle.rules.specs.Table.{kindOf, nameOf, records, fine, check, recipeOf}
 use Rattle.rules.specs.Places.{Point, nowhere, stop, skips, assigns, tests, spawns, suspends, awaits, at, isPlace}
 use Rattle.rules.specs.Standing.{nextOf, pointAt, StandsAt}
-use Rattle.rules.specs.State.{Task, Store}
-use Rattle.rules.specs.Scheduler.{ready, waits-for, isReady}
-use Rattle.rules.specs.Steps.{isDone, envOf, goTo, waitAt, pastAt}
+use Rattle.rules.specs.State.{Task, Store, State}
+use Rattle.rules.specs.Scheduler.{ready, waits-for, isReady, isLive}
+use Rattle.rules.specs.Steps.{isDone, envOf, goTo, waitAt, pastAt, recipes}
 use Rattle.rules.proofs.Verdicts.{and-true}
 use Rattle.rules.proofs.Standing.{choose, kind-at, spells, size, at-is, stands-at, at-end, is-place}
-use Rattle.ready.specs.Ready.{awaitAt}
+use Rattle.ready.specs.Ready.{readyIn, NotDone, awaitAt}
 
 -- ---- awaits among what can stand somewhere
 
@@ -60,6 +60,27 @@ module _ (x : Point ℕ) (s : Store) (live : ℕ → Bool) (t : Task ℕ) (n k :
 
   pub wait-on : isDone (s .issued) live awaited ≡ false → waitAt x s live t ≡ waits-for awaited
   wait-on h = rw (e, h)
+
+never : {P : Type 0} {z : ℤ} → ready ≡ waits-for z → P
+never h = let b : _≡_ {A = Bool} true false = ap isReady h in absurd (true≢false b)
+
+waits-at : (x : Point ℕ) (s : Store) (live : ℕ → Bool) (t : Task ℕ) (z : ℤ) → waitAt x s live t ≡ waits-for z → isDone (s .issued) live z ≡ false
+waits-at nowhere s live t z h = never h
+waits-at stop s live t z h = never h
+waits-at (skips k) s live t z h = never h
+waits-at (assigns n e k) s live t z h = never h
+waits-at (tests e k l) s live t z h = never h
+waits-at (spawns n p e k) s live t z h = never h
+waits-at (suspends k) s live t z h = never h
+waits-at (awaits n k) s live t z h = by (isDone (s .issued) live (read (envOf s t) n)) refl h
+  where
+    by : (b : Bool) → isDone (s .issued) live (read (envOf s t) n) ≡ b → cond b ready (waits-for (read (envOf s t) n)) ≡ waits-for z → isDone (s .issued) live z ≡ false
+    by true e g = never g
+    by false e g = let same : read (envOf s t) n ≡ z = cc in rw same at e
+
+-- what a task waits for is not done
+pub waits-not-done : (table : List ℕ) (c : State) (t : Task ℕ) (z : ℤ) → readyIn table c t ≡ waits-for z → NotDone table c z
+waits-not-done table c t z h = waits-at (at (recipeOf table) (t .place)) (c .store) (isLive (recipes (recipeOf table)) (c .queue)) t z h
 
 pub past-await : (x : Point ℕ) (t : Task ℕ) (n k : ℕ) → x ≡ awaits n k → pastAt x t ≡ goTo t k
 past-await x t n k e = rw e

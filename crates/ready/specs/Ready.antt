@@ -12,8 +12,8 @@ use Rattle.rules.specs.Recipe.{Recipe}
 use Rattle.rules.specs.Table.{fine, check, recipeOf}
 use Rattle.rules.specs.Places.{isPlace}
 use Rattle.rules.specs.State.{Task, State}
-use Rattle.rules.specs.Scheduler.{Readiness, ready, waits-for, readiness, canGo, isReady}
-use Rattle.rules.specs.Steps.{recipes}
+use Rattle.rules.specs.Scheduler.{Readiness, ready, waits-for, isLive, readiness, canGo, isReady}
+use Rattle.rules.specs.Steps.{isDone, recipes}
 use Rattle.rules.specs.Fairness.{Every}
 use Rattle.state.specs.View.{taskOf, entry, queueOf}
 use Rattle.ready.specs.declared.Wait.{Wait}
@@ -33,6 +33,10 @@ idle issued variables queue front queued =
 -- a task's readiness in such a state, by the table of the recipe
 abbrev pub readyIn : (table : List ℕ) → State → Task ℕ → Readiness
 readyIn table c t = readiness (recipes (recipeOf table)) c t
+
+-- a value that is not the number of a task that is over
+abbrev pub NotDone : (table : List ℕ) → State → ℤ → Type 0
+NotDone table c z = isDone (c .store .issued) (isLive (recipes (recipeOf table)) (c .queue)) z ≡ false
 
 -- how many tasks stand before the first that can go on: all of them, if none can
 abbrev pub ahead : {T : Type 0} → (T → Bool) → List T → ℕ

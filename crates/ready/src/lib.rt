@@ -12,7 +12,7 @@ ghost use Rattle.rules.specs.State as R;
 ghost use Rattle.rules.specs.Scheduler.{isLive, isReady, waits-for, canGo};
 ghost use Rattle.rules.specs.Steps.{isDone, recipes, goTo, pastAt};
 ghost use Rattle.state.specs.View.{taskOf, entry, queueOf};
-ghost use Rattle.ready.specs.Ready.{readinessOf, idle, readyIn, aheadIn, natural, awaitAt, Describes, Placed, Held, Waiting};
+ghost use Rattle.ready.specs.Ready.{readinessOf, idle, readyIn, aheadIn, natural, awaitAt, Describes, NotDone, Placed, Held, Waiting};
 ghost use Rattle.links.specs.Linked.{Leads};
 
 pub enum Wait {
@@ -78,7 +78,8 @@ fn is_await(table: &[u8], off: usize) -> bool
     table[off] == 8
 }
 
-// Whether a task is ready, or the number that it waits for.
+// Whether a task is ready, or the number that it waits for. Of the number `known` it is known that it is not done: as a rule, tasks
+// that wait one behind another wait for the same.
 fn wait_of(
     table: &[u8],
     t: Task,
@@ -87,13 +88,17 @@ fn wait_of(
     queued: usize,
     issued: u16,
     variables: &[i32; 64],
+    known: i32,
 ) -> Wait
-    requires { ⌜ (check (now table) ≡ fine) × Placed (recipeOf (now table)) (taskOf t) × (front < 32) × (queued ≤ 32) ⌝ }
+    requires { ⌜ (check (now table) ≡ fine) × Placed (recipeOf (now table)) (taskOf t) × (front < 32) × (queued ≤ 32) × NotDone (now table) (idle issued (now variables) (now queue) front queued) known ⌝ }
     ensures { λ r. ⌜ readinessOf r ≡ readyIn (now (table .entry)) (idle issued (now (variables .entry)) (now (queue .entry)) front queued) (taskOf t) ⌝ }
 {
     let off = 8 * (t.place as usize);
     if is_await(table, off) {
         let v = variable(table[off + 1], variables, t.parameter);
+        if v == known {
+            return Wait::Waits(v);
+        }
         if is_done(queue, front, queued, issued, v) {
             return Wait::Ready;
         }
@@ -102,7 +107,7 @@ fn wait_of(
     Wait::Ready
 }
 
-// The queued task i from the front.
+// The queued task i from the front; the number `known` is not done.
 pub fn queued_at(
     table: &[u8],
     queue: &[u64; 32],
@@ -111,13 +116,14 @@ pub fn queued_at(
     issued: u16,
     variables: &[i32; 64],
     i: usize,
+    known: i32,
 ) -> Queued
-    requires { ⌜ Waiting (now table) (now queue) front queued × (i < queued) ⌝ }
+    requires { ⌜ Waiting (now table) (now queue) front queued × (i < queued) × NotDone (now table) (idle issued (now variables) (now queue) front queued) known ⌝ }
     ensures { λ r. ⌜ Describes (now (table .entry)) issued (now (variables .entry)) (now (queue .entry)) front queued i r ⌝ }
 {
     let at = (front + i) % 32;
     let task = unpack(queue[at]);
-    let wait = wait_of(table, task, queue, front, queued, issued, variables);
+    let wait = wait_of(table, task, queue, front, queued, issued, variables, known);
     Queued {
         task: task,
         wait: wait,
@@ -168,14 +174,17 @@ pub fn first_ready(
     ensures { λ r. ⌜ r ≡ aheadIn (now (table .entry)) (idle issued (now (variables .entry)) (now (queue .entry)) front queued) ⌝ }
 {
     let mut i: usize = 0;
+    let mut known: i32 = 0; // no task has this number
     while i < queued {
-        let x = queued_at(table, queue, front, queued, issued, variables, i);
+        let x = queued_at(table, queue, front, queued, issued, variables, i, known);
         let wait = x.wait;
         match wait {
             Wait::Ready => {
                 return i;
             }
-            Wait::Waits(_) => {}
+            Wait::Waits(v) => {
+                known = v;
+            }
         }
         i += 1;
     }

@@ -1,32 +1,40 @@
 -- A run call as a whole: from one stretch of steps to the next, and its end.
 -- Assumes nothing.
-use Prim.Native.Nat.{ℕ, _<_}
+use Prim.Native.Nat.{ℕ, zero, suc, _<_}
 use mathlib.Core.Path.{_≡_, refl, sym, ap, _∙_, subst, subst⁻¹}
-use mathlib.Core.Bool.{true, false}
+use mathlib.Core.Bool.{true, false, false≢true}
 use mathlib.Core.Option.{none}
-use mathlib.Core.List.{List}
+use mathlib.Core.List.{List, [], _∷_}
+use mathlib.Core.Logic.{⊎-elim}
 use native.Mathlib.Omega.{arith}
+use lib.ListN.{length, getD}
+use types.Run.{OneOf}
+use denote.Enum.Declared.{tagOf}
+use Rattle.rules.specs.Recipe.{Recipe}
 use Rattle.rules.specs.Table.{fine, check, recipeOf}
-use Rattle.rules.specs.Places.{at, start}
+use Rattle.rules.specs.Places.{at}
 use Rattle.rules.specs.State as R
-use Rattle.rules.specs.Scheduler.{nextAct, next}
-use Rattle.rules.specs.Steps.{recipes, goTo, pastAt}
+use Rattle.rules.specs.Steps.{goTo, pastAt}
+use Rattle.state.specs.declared.Task.{Task}
 use Rattle.state.specs.declared.State.{State}
-use Rattle.state.specs.View.{taskOf, entry, queueOf, view, Fine, takeUp, turn}
-use Rattle.moves.specs.declared.Move.{Move}
-use Rattle.ready.specs.Ready.{idle}
+use Rattle.state.specs.View.{taskOf, entry, queueOf, view, Fine, putBack, takeUp, turn}
+use Rattle.state.proofs.Ring.{front-rest}
+use Rattle.state.proofs.Views.{queue-length, none-active}
 use Rattle.links.specs.Linked.{Linked}
-use Rattle.moves.specs.Moves.{Moves}
+use Rattle.ready.specs.Ready.{idle, Placed}
+use Rattle.moves.specs.declared.Move.{Move}
+use Rattle.moves.specs.declared.Move.the-variants.{Goes, Sets, Spawns, Gives, Waits, Ends}
+use Rattle.moves.proofs.Move.{the-type}
 use Rattle.count.specs.declared.Count.{Count}
 use Rattle.count.specs.declared.Stop.{Stop}
-use Rattle.count.specs.Along.{endingOf, isMore, Along, Ended, Told}
-use Rattle.active.specs.Active.{leaves, busy, Active, stepOf, Leaving, Made}
-use Rattle.idle.specs.Idle.{Idling, Taking, tookUp, Tries}
-use Rattle.runner.specs.Drive.{Driving, call, Drives}
-use Rattle.count.proofs.Along.{along-start}
-use Rattle.state.proofs.Views.{queue-length}
-use Rattle.idle.proofs.Trying.{first, first-entry, placed-at}
+use Rattle.count.specs.Along.{endingOf, isMore, Along, Ended}
 use Rattle.count.proofs.Stops.{more-none, ends-of}
+use Rattle.count.proofs.Along.{along-start}
+use Rattle.active.specs.Active.{leaves, busy, leftBy, Active, Room, Left}
+use Rattle.idle.specs.Idle.{Idling, tookUp, Tries}
+use Rattle.idle.proofs.Turning.{turned-length}
+use Rattle.idle.proofs.Trying.{first, first-entry, placed-at}
+use Rattle.runner.specs.Drive.{Driving, Taking, call, Drives}
 
 -- the state as the code holds it, by whether a task is active
 abbrev pub busyOf : State → R.State
@@ -41,14 +49,25 @@ busy-view s h = rw h refl
 idle-view : (s : State) → s .active ≡ false → view s ≡ idleOf s
 idle-view s h = rw h refl
 
--- the task that stands so many turns behind the front becomes active: past its await, if it stood at one
-took-up : (table : List ℕ) (s : State) (turns place : ℕ) → turns < s .queued
-    → ((t : R.Task ℕ) → t .place ≡ entry (s .queue) (s .front) turns .place → pastAt (at (recipeOf table) (t .place)) t ≡ goTo t place)
-    → takeUp (turn turns (view s) .queue) place (turn turns (view s)) ≡ tookUp (recipeOf table) (turn turns (view s) .queue) (turn turns (view s))
-took-up table s turns place i past =
-    let f = first (s .queue) (s .front) (s .queued) turns i in
-    let up = past (f .first) (ap (λ (t : R.Task ℕ). t .place) (first-entry (s .queue) (s .front) (s .queued) turns i)) in
-    rw (f .is, up) refl
+-- the front becomes active: past its await, if it stood at one
+took-up : (r : Recipe) (s : State) (t : Task) → 0 < s .queued
+    → taskOf t ≡ pastAt (at r (entry (s .queue) (s .front) 0 .place)) (entry (s .queue) (s .front) 0) → taskOf t ≡ goTo (entry (s .queue) (s .front) 0) (t .place)
+    → takeUp (view s .queue) (t .place) (view s) ≡ tookUp r (view s .queue) (view s)
+took-up r s t some past same = rw (front-rest (s .queue) (s .front) (s .queued) some, ← past, ← same) refl
+
+-- a move that leaves, but neither spawns nor ends, puts the task back
+pub puts-back : (m : Move) (c : R.State) → leaves m ≡ true → OneOf (0 ∷ 1 ∷ 3 ∷ 4 ∷ []) (tagOf the-type m) → putBack (c .active) c ≡ leftBy m c
+puts-back (Goes k) c h o = absurd (false≢true h)
+puts-back (Sets n z k) c h o = absurd (false≢true h)
+puts-back (Spawns n p z k) c h o = absurd (⊎-elim (λ e. omega (arith, e)) (⊎-elim (λ e. omega (arith, e)) (⊎-elim (λ e. omega (arith, e)) (λ e. omega (arith, e)))) o)
+puts-back (Gives k) c h o = refl
+puts-back (Waits z) c h o = refl
+puts-back Ends c h o = absurd (⊎-elim (λ e. omega (arith, e)) (⊎-elim (λ e. omega (arith, e)) (⊎-elim (λ e. omega (arith, e)) (λ e. omega (arith, e)))) o)
+
+-- where none is turned
+pub no-turn : (n : ℕ) (s : State) → n ≡ 0 → view s ≡ turn n (view s)
+no-turn zero s h = refl
+no-turn (suc n) s h = absurd (omega arith)
 
 -- the call of the state s₀ with the log buffer log₀ has come to the state s
 pub record Driven (table : List ℕ) (s₀ : State) (budget : ℕ) (log₀ : List ℕ) (s : State) (n : Count) (log : List ℕ) : Type 0 where
@@ -57,11 +76,8 @@ pub record Driven (table : List ℕ) (s₀ : State) (budget : ℕ) (log₀ : Lis
 
 -- what the active task came to, in the state s, by its last move m
 pub record Came (table : List ℕ) (s₀ : State) (budget : ℕ) (log₀ : List ℕ) (n : Count) (s : State) (stop : Stop) (n′ : Count) (log′ : List ℕ) (m : Move) : Type 0 where
-  pub told : Told (recipeOf table) (call table s₀ budget log₀) budget log₀ n′ log′
-      (busyOf s) (endingOf stop)
-  pub moves : Moves (start (recipeOf table)) (at (recipeOf table) (s .current .place)) (s .variables) (taskOf (s .current)) m
-  pub away : endingOf stop ≡ none → leaves m ≡ true
-  pub further : endingOf stop ≡ none → n .steps < n′ .steps
+  pub left : Left (recipeOf table) (call table s₀ budget log₀) budget log₀ n′ log′ m (busyOf s) (endingOf stop)
+  pub leaves-so : endingOf stop ≡ none → (leaves m ≡ true) × Room m (s .queued) (s .issued) × (n .steps < n′ .steps)
   pub on : s .active ≡ true
   pub fine-state : Fine s
 
@@ -102,10 +118,6 @@ module _ {table : List ℕ} {s₀ : State} {budget : ℕ} {log₀ : List ℕ} wh
       reached = record { call = call table s₀ budget log₀; given = log₀; along = along-idle h };
     }
 
-    pub to-take : (next starts : List ℕ) (turns : ℕ) → check table ≡ fine → Linked (recipeOf table) next starts → s .active ≡ false → turns < s .queued → Taking table next (s .queue) (s .front) turns
-    to-take next starts turns e l h i =
-        record { accepted = e; leads = l .next-is; front-fits = d .fine-state .front-fits; few = omega (arith, d .fine-state .few); placed = placed-at (to-try e h) turns i }
-
   module _ {n : Count} {s : State} {stop : Stop} {n′ : Count} {log′ : List ℕ} {m : Move} (c : Came table s₀ budget log₀ n s stop n′ log′ m) where
     pub came-ends : isMore stop ≡ false → Drives table s₀ budget log₀ log′ (record { stop = stop; count = n′; state = s })
     came-ends h =
@@ -113,41 +125,28 @@ module _ {table : List ℕ} {s₀ : State} {budget : ℕ} {log₀ : List ℕ} wh
         record {
           ending = e;
           stop-is = g;
-          ended = rw (busy-view s (c .on)) (subst (Told (recipeOf table) (call table s₀ budget log₀) budget log₀ n′ log′ (busyOf s)) g (c .told));
+          ended = rw (busy-view s (c .on)) (subst (Left (recipeOf table) (call table s₀ budget log₀) budget log₀ n′ log′ m (busyOf s)) g (c .left));
           fine-state = c .fine-state;
         }
 
     module _ (h : isMore stop ≡ true) where
-      goes-told : Told (recipeOf table) (call table s₀ budget log₀) budget log₀ n′ log′ (busyOf s) none
-      goes-told = subst (Told (recipeOf table) (call table s₀ budget log₀) budget log₀ n′ log′ (busyOf s)) (more-none stop h) (c .told)
+      pub came-away : leaves m ≡ true
+      came-away = c .leaves-so (more-none stop h) .0
 
-      as-moved : stepOf (recipeOf table) s m ≡ next (recipes (recipeOf table)) (busyOf s)
-      as-moved = ap (nextAct (recipes (recipeOf table)) (busyOf s .queue)) (sym (c .moves .acts (s .issued) (busyOf s .queue)))
-
-      pub came-leaves : Leaving s m
-      came-leaves =
-          let (x, c′, g, a) = goes-told in
-          record {
-            fine-state = c .fine-state;
-            on = c .on;
-            name-fits = c .moves .named;
-            away = c .away (more-none stop h);
-            recipe = recipeOf table;
-            event = x;
-            after = c′;
-            goes-on = as-moved ∙ g;
-          }
-
-      pub came-on : (s′ : State) → Made s m s′ → Driven table s₀ budget log₀ s′ n′ log′
-      came-on s′ d =
-          let (x, c′, g, a) = goes-told in
-          record {
-            along = subst⁻¹ (Along (recipeOf table) (call table s₀ budget log₀) budget log₀ n′ log′) (d .steps (recipeOf table) x c′ (as-moved ∙ g)) a;
-            fine-state = d .fine-state;
-          }
+      pub came-room : Room m (s .queued) (s .issued)
+      came-room = c .leaves-so (more-none stop h) .1
 
       pub came-further : n .steps < n′ .steps
-      came-further = c .further (more-none stop h)
+      came-further = c .leaves-so (more-none stop h) .2
+
+      -- after what the move does to the queue
+      pub came-on : (s′ : State) → view s′ ≡ leftBy m (view s) → Fine s′ → Driven table s₀ budget log₀ s′ n′ log′
+      came-on s′ v f =
+          let a = subst (Left (recipeOf table) (call table s₀ budget log₀) budget log₀ n′ log′ m (busyOf s)) (more-none stop h) (c .left) in
+          record {
+            along = subst⁻¹ (Along (recipeOf table) (call table s₀ budget log₀) budget log₀ n′ log′) (v ∙ ap (leftBy m) (busy-view s (c .on))) a;
+            fine-state = f;
+          }
 
   module _ {n : Count} {s : State} {stop : Stop} {n′ : Count} {log′ : List ℕ} {turns : ℕ} (c : Tried table s₀ budget log₀ n s stop n′ log′ turns) where
     abbrev after : R.State
@@ -174,12 +173,35 @@ module _ {table : List ℕ} {s₀ : State} {budget : ℕ} {log₀ : List ℕ} wh
       pub tried-further : n .steps < n′ .steps
       tried-further = c .further (more-none stop h) .1
 
-      pub tried-on : (place : ℕ)
-          → ((t : R.Task ℕ) → t .place ≡ entry (s .queue) (s .front) turns .place → pastAt (at (recipeOf table) (t .place)) t ≡ goTo t place)
-          → (s′ : State) → view s′ ≡ takeUp (turn turns (view s) .queue) place (turn turns (view s)) → Fine s′ → Driven table s₀ budget log₀ s′ n′ log′
-      tried-on place past s′ v f =
-          let a = subst (Tries (recipeOf table) (call table s₀ budget log₀) budget log₀ n′ log′ after) (more-none stop h) (c .tries) in
-          record {
-            along = subst⁻¹ (Along (recipeOf table) (call table s₀ budget log₀) budget log₀ n′ log′) (v ∙ took-up table s turns place tried-inside past ∙ ap (λ (d : R.State). tookUp (recipeOf table) (d .queue) d) after-is) a;
-            fine-state = f;
-          }
+      -- the state s′ after the turns: its front is the task that is taken up
+      module _ (s′ : State) (v : view s′ ≡ turn turns (view s)) (f : Fine s′) where
+        pub turned-off : s′ .active ≡ false
+        turned-off = none-active (s′ .active) (s′ .current) (ap (λ (d : R.State). d .active) (v ∙ after-is))
+
+        pub turned-some : 0 < s′ .queued
+        turned-some =
+            let l = sym (queue-length (s′ .queue) (s′ .front) (s′ .queued)) ∙ ap (λ (d : R.State). length (d .queue)) v ∙ turned-length turns (view s .queue) in
+            let i = tried-inside in
+            omega (arith, l, queue-length (s .queue) (s .front) (s .queued))
+
+        turned-front : entry (s′ .queue) (s′ .front) 0 ≡ entry (s .queue) (s .front) turns
+        turned-front =
+            let t = first (s .queue) (s .front) (s .queued) turns tried-inside in
+            let d = entry (s .queue) (s .front) turns in
+            ap (λ (q : List (R.Task ℕ)). getD q 0 d) (sym (front-rest (s′ .queue) (s′ .front) (s′ .queued) turned-some) ∙ ap (λ (d : R.State). d .queue) v ∙ t .is)
+            ∙ first-entry (s .queue) (s .front) (s .queued) turns tried-inside
+
+        pub to-take : (next starts log : List ℕ) → check table ≡ fine → Linked (recipeOf table) next starts
+            → Idling table (s .queue) (s .variables) (s .front) (s .queued) (s .issued) budget log n → Taking table next (s′ .queue) (s′ .front)
+        to-take next starts log e l i =
+            record { accepted = e; leads = l .next-is; front-fits = f .front-fits; placed = subst⁻¹ (Placed (recipeOf table)) turned-front (placed-at i turns tried-inside) }
+
+        pub tried-on : (t : Task) → taskOf t ≡ pastAt (at (recipeOf table) (entry (s′ .queue) (s′ .front) 0 .place)) (entry (s′ .queue) (s′ .front) 0)
+            → taskOf t ≡ goTo (entry (s′ .queue) (s′ .front) 0) (t .place)
+            → (s″ : State) → view s″ ≡ takeUp (view s′ .queue) (t .place) (view s′) → Fine s″ → Driven table s₀ budget log₀ s″ n′ log′
+        tried-on t past same s″ u g =
+            let a = subst (Tries (recipeOf table) (call table s₀ budget log₀) budget log₀ n′ log′ after) (more-none stop h) (c .tries) in
+            record {
+              along = subst⁻¹ (Along (recipeOf table) (call table s₀ budget log₀) budget log₀ n′ log′) (u ∙ took-up (recipeOf table) s′ t turned-some past same ∙ ap (λ (d : R.State). tookUp (recipeOf table) (d .queue) d) (v ∙ after-is)) a;
+              fine-state = g;
+            }

@@ -1,23 +1,21 @@
 // The steps of a run call, until it stops.
-use active::made;
 use active::proceed;
+use count::Bounds;
 use count::Count;
 use count::Stop;
 use count::is_more;
 use idle::try_all;
+use moves::Move;
 use ready::past;
 use state::State;
+use state::Task;
 use state::unpack;
 ghost use mathlib.Core.Path.{_≡_};
-ghost use mathlib.Core.Bool.{false};
-ghost use Prim.Native.Nat.{ℕ, _<_};
 ghost use Rattle.rules.specs.Table.{recipeOf};
 ghost use Rattle.rules.specs.Places.{at};
-ghost use Rattle.rules.specs.State as R;
 ghost use Rattle.rules.specs.Steps.{goTo, pastAt};
-ghost use Rattle.state.specs.View.{entry, view, Fine, takeUp, turn};
-ghost use Rattle.idle.specs.Idle.{Taking};
-ghost use Rattle.runner.specs.Drive.{Driving, Drives};
+ghost use Rattle.state.specs.View.{taskOf, entry};
+ghost use Rattle.runner.specs.Drive.{Driving, Taking, Drives};
 
 // Why a call stopped, its count, and the state that it leaves.
 pub struct Ran {
@@ -26,28 +24,49 @@ pub struct Ran {
     pub state: State,
 }
 
-// Where the queued task k goes on when it becomes active.
-fn onward(table: &[u8], next: &[u16; 4096], queue: &[u64; 32], front: usize, k: usize) -> u16
-    requires { ⌜ Taking (now table) (now next) (now queue) front k ⌝ }
-    ensures { λ r. ⌜ ((t : R.Task ℕ) → t .place ≡ entry (now (queue .entry)) front k .place → pastAt (at (recipeOf (now (table .entry))) (t .place)) t ≡ goTo t r) ⌝ }
+fn stopped(stop: Stop, count: Count, state: State) -> Ran
+    ensures { λ r. ⌜ r ≡ record { stop = stop; count = count; state = state } ⌝ }
 {
-    let at = (front + k) % 32;
-    let t = unpack(queue[at]);
-    past(table, next, t.place)
-}
-
-// The front is turned to the back, so often, and the next becomes active, at this place.
-fn taken(s: State, turns: usize, place: u16) -> State
-    requires { ⌜ Fine s × (s .active ≡ false) × (turns < s .queued) ⌝ }
-    ensures { λ r. ⌜ (view r ≡ takeUp (turn turns (view s) .queue) place (turn turns (view s))) × Fine r ⌝ }
-{
-    if turns == 0 {
-        return s.take_up(place);
+    Ran {
+        stop: stop,
+        count: count,
+        state: state,
     }
-    s.turn(turns).take_up(place)
 }
 
-// All steps of a call. The state is copied only where the queue changes.
+fn bounds_of(queued: usize, issued: u16, budget: u32) -> Bounds
+    ensures { λ r. ⌜ r ≡ record { queued = queued; issued = issued; budget = budget } ⌝ }
+{
+    Bounds {
+        queued: queued,
+        issued: issued,
+        budget: budget,
+    }
+}
+
+// No step made, and nothing written.
+fn none_yet() -> Count
+    ensures { λ r. ⌜ (r .steps ≡ 0) × (r .written ≡ 0) ⌝ }
+{
+    Count {
+        steps: 0,
+        written: 0,
+    }
+}
+
+// The front of the queue as it becomes active: past its await, if it stands at one.
+fn onward(table: &[u8], next: &[u16; 4096], queue: &[u64; 32], front: usize) -> Task
+    requires { ⌜ Taking (now table) (now next) (now queue) front ⌝ }
+    ensures { λ r. ⌜ taskOf r ≡ pastAt (at (recipeOf (now (table .entry))) (entry (now (queue .entry)) front 0 .place)) (entry (now (queue .entry)) front 0) ⌝ }
+    ensures { λ r. ⌜ taskOf r ≡ goTo (entry (now (queue .entry)) front 0) (r .place) ⌝ }
+{
+    let mut t = unpack(queue[front]);
+    t.place = past(table, next, t.place);
+    t
+}
+
+// All steps of a call. Each arm assigns the new state to the variable that held the old one, so that nothing of it is copied; a turn alone
+// copies the queue.
 pub fn drive(
     table: &[u8],
     next: &[u16; 4096],
@@ -60,64 +79,43 @@ pub fn drive(
     ensures { λ r. ⌜ Drives (now (table .entry)) first budget (now (log .entry)) (now (log .exit)) r ⌝ }
 {
     let mut s = first;
-    let mut n = Count {
-        steps: 0,
-        written: 0,
-    };
+    let mut n = none_yet();
     loop {
+        let bounds = bounds_of(s.queued, s.issued, budget);
         if s.active {
             let t = s.current;
-            let queued = s.queued;
-            let issued = s.issued;
-            let p = proceed(
-                table,
-                next,
-                starts,
-                budget,
-                log,
-                t,
-                &mut s.variables,
-                queued,
-                issued,
-                n,
-            );
+            let p = proceed(table, next, starts, log, t, &mut s.variables, bounds, n);
             let task = p.task;
-            let stop = p.stop;
-            let last = p.last;
             s.current = task;
             n = p.count;
+            let stop = p.stop;
             if !is_more(stop) {
-                return Ran {
-                    stop: stop,
-                    count: n,
-                    state: s,
-                };
+                return stopped(stop, n, s);
             }
-            s = made(s, last);
+            let last = p.last;
+            match last {
+                Move::Spawns(_, start, v, _) => {
+                    s = s.spawn(start, v);
+                }
+                Move::Ends => {
+                    s = s.end();
+                }
+                _ => {
+                    s = s.put_back();
+                }
+            }
         } else {
-            let w = try_all(
-                table,
-                &s.queue,
-                &s.variables,
-                s.front,
-                s.queued,
-                s.issued,
-                budget,
-                log,
-                n,
-            );
-            let stop = w.stop;
-            let turns = w.turns;
+            let w = try_all(table, &s.queue, &s.variables, s.front, bounds, log, n);
             n = w.count;
+            let stop = w.stop;
             if !is_more(stop) {
-                return Ran {
-                    stop: stop,
-                    count: n,
-                    state: s.turn(turns),
-                };
+                return stopped(stop, n, s.turn(w.turns));
             }
-            let place = onward(table, next, &s.queue, s.front, turns);
-            s = taken(s, turns, place);
+            if w.turns != 0 {
+                s = s.turn(w.turns);
+            }
+            let t = onward(table, next, &s.queue, s.front);
+            s = s.take_up(t);
         }
     }
 }

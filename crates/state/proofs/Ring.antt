@@ -48,13 +48,11 @@ parts q f n =
           (λ i h. let e : ring f (suc i) ≡ ring (suc f) i = omega arith in ap (λ (k : ℕ). unpacked (getD q k 0)) e),
     )
 
-pub front-rest : (q : List ℕ) (f n : ℕ) → f < 32 → 0 < n
-    → queueOf q f n ≡ unpacked (getD q f 0) ∷ queueOf q ((f + 1) % 32) (n - 1)
-front-rest q f zero h g = absurd (omega arith)
-front-rest q f (suc n) h g =
+pub front-rest : (q : List ℕ) (f n : ℕ) → 0 < n → queueOf q f n ≡ entry q f 0 ∷ queueOf q ((f + 1) % 32) (n - 1)
+front-rest q f zero g = absurd (omega arith)
+front-rest q f (suc n) g =
     let e : suc n - 1 ≡ n = omega arith in
-    let k : f % 32 ≡ f = omega arith in
-    rw (e, front-any q (f + 1) n, add-one f) (rw k at (parts q f n))
+    rw (e, front-any q (f + 1) n, add-one f, add-zero f) (parts q f n)
 
 -- the front turned to the back
 pub one-turn : (q : List ℕ) (f n : ℕ) → length q ≡ 32 → n ≤ 32

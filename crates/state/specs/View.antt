@@ -51,10 +51,10 @@ pub record Fine (s : State) : Type 0 where
 
 -- ---- what the methods do
 
--- "joins the back": the active task, at the place k
-abbrev pub putBack : Option (R.Task ℕ) → ℕ → R.State → R.State
-putBack none k c = c
-putBack (some t) k c = record { store = c .store; active = none; queue = c .queue ++ goTo t k ∷ [] }
+-- "joins the back": the active task
+abbrev pub putBack : Option (R.Task ℕ) → R.State → R.State
+putBack none c = c
+putBack (some t) c = record { store = c .store; active = none; queue = c .queue ++ t ∷ [] }
 
 -- the front becomes active, at the place k
 abbrev pub takeUp : List (R.Task ℕ) → ℕ → R.State → R.State

@@ -5,8 +5,10 @@ use values::unsigned;
 ghost use mathlib.Core.Path.{_≡_};
 ghost use mathlib.Core.Bool.{true, false};
 ghost use Prim.Native.Nat.{_+_, _<_, _≤_};
+ghost use lib.ListN.{set};
 ghost use Rattle.rules.specs.State as R;
-ghost use Rattle.state.specs.View.{taskOf, packed, unpacked, view, Fine, putBack, takeUp, spawn, end, turn};
+ghost use Rattle.rules.specs.Steps.{goTo};
+ghost use Rattle.state.specs.View.{taskOf, packed, unpacked, entry, view, Fine, putBack, takeUp, spawn, end, turn};
 
 pub struct Task {
     pub number: u16,
@@ -46,60 +48,103 @@ pub fn unpack(x: u64) -> Task
     }
 }
 
+// A queue with a task stored at an index.
+fn stored(queue: [u64; 32], at: usize, task: u64) -> [u64; 32]
+    requires { ⌜ at < 32 ⌝ }
+    ensures { λ r. ⌜ r ≡ set queue at task ⌝ }
+{
+    let mut q = queue;
+    q[at] = task;
+    q
+}
+
+// Each method builds the new state as a literal: assigned to the variable that held the old one, it costs only what it changes.
 impl State {
-    // The active task joins the back, at this place.
-    pub fn put_back(mut self, place: u16) -> State
+    // The active task joins the back.
+    pub fn put_back(self) -> State
         requires { ⌜ Fine self × (self .active ≡ true) ⌝ }
-        ensures { λ r. ⌜ (view r ≡ putBack (view self .active) place (view self)) × Fine r ⌝ }
+        ensures { λ r. ⌜ (view r ≡ putBack (view self .active) (view self)) × Fine r ⌝ }
     {
-        let mut t = self.current;
-        t.place = place;
-        let back = (self.front + self.queued) % 32;
-        self.queue[back] = pack(t);
-        self.queued = self.queued + 1;
-        self.active = false;
-        self
+        let t = self.current;
+        let front = self.front;
+        let queued = self.queued;
+        let old = self.queue;
+        let queue = stored(old, (front + queued) % 32, pack(t));
+        let variables = self.variables;
+        State {
+            issued: self.issued,
+            active: false,
+            current: t,
+            front: front,
+            queued: queued + 1,
+            queue: queue,
+            variables: variables,
+        }
     }
 
-    // The front becomes active, at this place.
-    pub fn take_up(mut self, place: u16) -> State
-        requires { ⌜ Fine self × (self .active ≡ false) × (0 < self .queued) ⌝ }
-        ensures { λ r. ⌜ (view r ≡ takeUp (view self .queue) place (view self)) × Fine r ⌝ }
+    // The front, which is handed over at the place where it goes on, becomes active.
+    pub fn take_up(self, t: Task) -> State
+        requires { ⌜ Fine self × (self .active ≡ false) × (0 < self .queued) × (taskOf t ≡ goTo (entry (self .queue) (self .front) 0) (t .place)) ⌝ }
+        ensures { λ r. ⌜ (view r ≡ takeUp (view self .queue) (t .place) (view self)) × Fine r ⌝ }
     {
-        let front = self.front;
-        let mut t = unpack(self.queue[front]);
-        t.place = place;
-        self.current = t;
-        self.front = (front + 1) % 32;
-        self.queued = self.queued - 1;
-        self.active = true;
-        self
+        let queue = self.queue;
+        let variables = self.variables;
+        State {
+            issued: self.issued,
+            active: true,
+            current: t,
+            front: (self.front + 1) % 32,
+            queued: self.queued - 1,
+            queue: queue,
+            variables: variables,
+        }
     }
 
     // The next number is issued, and its task joins the back.
-    pub fn spawn(mut self, place: u16, argument: i32) -> State
+    pub fn spawn(self, place: u16, argument: i32) -> State
         requires { ⌜ Fine self × (self .active ≡ true) × (self .queued < 31) × (self .issued < 65535) ⌝ }
         ensures { λ r. ⌜ (view r ≡ spawn place argument (view self)) × Fine r ⌝ }
     {
         let number = self.issued + 1;
-        let at = (self.front + self.queued) % 32;
-        self.queue[at] = pack(Task {
+        let front = self.front;
+        let queued = self.queued;
+        let task = Task {
             number: number,
             place: place,
             parameter: argument,
-        });
-        self.queued = self.queued + 1;
-        self.issued = number;
-        self
+        };
+        let old = self.queue;
+        let queue = stored(old, (front + queued) % 32, pack(task));
+        let current = self.current;
+        let variables = self.variables;
+        State {
+            issued: number,
+            active: self.active,
+            current: current,
+            front: front,
+            queued: queued + 1,
+            queue: queue,
+            variables: variables,
+        }
     }
 
     // The active task is over.
-    pub fn end(mut self) -> State
+    pub fn end(self) -> State
         requires { ⌜ Fine self ⌝ }
         ensures { λ r. ⌜ (view r ≡ end (view self)) × Fine r ⌝ }
     {
-        self.active = false; // nothing of it stays
-        self
+        let current = self.current;
+        let queue = self.queue;
+        let variables = self.variables;
+        State {
+            issued: self.issued,
+            active: false, // nothing of it stays
+            current: current,
+            front: self.front,
+            queued: self.queued,
+            queue: queue,
+            variables: variables,
+        }
     }
 
     // The front is turned to the back, n times.

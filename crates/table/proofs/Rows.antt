@@ -12,14 +12,12 @@ use lib.ListN.{length, drop, length-drop}
 use lib.Seq.{drop-drop}
 use borrow.Author.Tests.{leb-true, eqb-true}
 use Rattle.rules.specs.Table as T
-use Rattle.rules.specs.Table.{Encloses, nothing, one-expression, expression-statements, two-expressions, kindOf, spanOf, inner, after, kindRow, isOf, Sort, Ends, at-end, within, spanFits, recordFault, Verdict, fine, fault, _else_, enclosed, checkE, checkRows}
-use Rattle.rules.specs.Answers.{ofTable}
-use Rattle.rules.proofs.Answers.{Numbers, own-number, checkE-number}
+use Rattle.rules.specs.Table.{Encloses, nothing, one-expression, expression-statements, two-expressions, kindOf, spanOf, inner, after, kindRow, isOf, Sort, Ends, at-end, within, recordFault, Verdict, fine, fault, _else_, enclosed, checkE, checkRows}
 use Rattle.rules.proofs.Verdicts.{and-true}
 use Rattle.rules.proofs.Grammar.Checking.{Right, right, right-whole, right-span, inside, row-empty, row-fault, row-deep, row-step, length-inner, length-after}
 use Rattle.rules.proofs.Grammar.Accepting.{right-of}
 use Rattle.table.specs.Check.{Row, Part, Parted, OfRow, procedures, statements, codeOf, enclosing, exprInside, headOf, bodyPart, bodyIndex, body, bodyAt}
-use Rattle.table.proofs.Columns.{due-kind}
+use Rattle.table.proofs.Columns.{at-each, due-kind, span-none, span-some}
 use Rattle.table.proofs.Expressions.{level-own, level-none, level-below}
 
 -- the kinds of a row are 1 to 8
@@ -28,20 +26,11 @@ row-kind procedures k h = let e = eqb-true k 1 h in (omega arith, omega arith)
 row-kind statements k h = let a = and-true (leb 2 k) (leb k 8) h in (omega (arith, leb-true 2 k (a .0)), leb-true k 8 (a .1))
 
 -- none of them encloses two expressions
-not-two : (k : ℕ) → k ≤ 8 → ¬ (kindRow k .encloses ≡ two-expressions)
-not-two zero h e = let z : _≡_ {A = ℕ} 0 1 = cc in omega arith
-not-two (suc zero) h e = let z : _≡_ {A = ℕ} 0 1 = cc in omega arith
-not-two (suc (suc zero)) h e = let z : _≡_ {A = ℕ} 0 1 = cc in omega arith
-not-two (suc (suc (suc zero))) h e = let z : _≡_ {A = ℕ} 0 1 = cc in omega arith
-not-two (suc (suc (suc (suc zero)))) h e = let z : _≡_ {A = ℕ} 0 1 = cc in omega arith
-not-two (suc (suc (suc (suc (suc zero))))) h e = let z : _≡_ {A = ℕ} 0 1 = cc in omega arith
-not-two (suc (suc (suc (suc (suc (suc zero)))))) h e = let z : _≡_ {A = ℕ} 0 1 = cc in omega arith
-not-two (suc (suc (suc (suc (suc (suc (suc zero))))))) h e = let z : _≡_ {A = ℕ} 0 1 = cc in omega arith
-not-two (suc (suc (suc (suc (suc (suc (suc (suc zero)))))))) h e = let z : _≡_ {A = ℕ} 0 1 = cc in omega arith
-not-two (suc (suc (suc (suc (suc (suc (suc (suc (suc k))))))))) h e = omega arith
+row-code : (k : ℕ) → k ≤ 8 → codeOf (kindRow k .encloses) ≤ 3
+row-code k h = leb-true _ 3 (at-each (λ k. leb (codeOf (kindRow k .encloses)) 3) 9 refl k (omega arith))
 
 -- what a record encloses is its expression, then its statements
-split : (x : Encloses) (d i : ℕ) (p : List ℕ) → ¬ (x ≡ two-expressions)
+split : (x : Encloses) (d i : ℕ) (p : List ℕ) → codeOf x ≤ 3
     → enclosed (checkE d) (checkRows T.statement d) x i p ≡ (exprInside x d i p else checkRows T.statement d (bodyIndex x i p) (bodyPart x p))
 unfolding enclosed exprInside bodyIndex bodyPart
 split nothing d i p n = sym (row-empty T.statement d i [] refl)
@@ -52,7 +41,7 @@ split one-expression d i p n = go (checkE d (i + 1) at-end (inner p)) (row-empty
     go fine e = sym e
     go (fault m j) e = refl
 split expression-statements d i p n = refl
-split two-expressions d i p n = absurd (n refl)
+split two-expressions d i p n = absurd (omega arith)
 
 else-assoc : (u v w : Verdict) → ((u else v) else w) ≡ (u else (v else w))
 else-assoc fine v w = refl
@@ -104,13 +93,13 @@ pub expr-test : (x : Encloses) (d i : ℕ) (p : List ℕ) → codeOf x ≡ 3 →
 unfolding exprInside
 expr-test x d i p h = rw (is-test x h) refl
 
-pub no-expr : (x : Encloses) (d i : ℕ) (p : List ℕ) → ¬ (codeOf x ≡ 2) → ¬ (codeOf x ≡ 3) → fine ≡ exprInside x d i p
+pub no-expr : (x : Encloses) (d i : ℕ) (p : List ℕ) → codeOf x < 2 → fine ≡ exprInside x d i p
 unfolding exprInside
-no-expr nothing d i p a b = refl
-no-expr Encloses.statements d i p a b = refl
-no-expr one-expression d i p a b = absurd (a refl)
-no-expr expression-statements d i p a b = absurd (b refl)
-no-expr two-expressions d i p a b = refl
+no-expr nothing d i p h = refl
+no-expr Encloses.statements d i p h = refl
+no-expr one-expression d i p h = absurd (omega arith)
+no-expr expression-statements d i p h = absurd (omega arith)
+no-expr two-expressions d i p h = absurd (omega arith)
 
 module _ (x : Encloses) (p : List ℕ) where
   pub body-statements : codeOf x ≡ 1 → inner p ≡ bodyPart x p
@@ -147,19 +136,16 @@ at-none two-expressions i p a b = refl
 
 -- a record that encloses an expression encloses a record
 pub some-span : {s : Sort} {ends : Ends} {p : List ℕ} → Right s ends p → 2 ≤ codeOf (enclosing p) → 1 ≤ spanOf p
-some-span {p = p} g h = go (enclosing p) h (right-span g)
-  where
-    go : (x : Encloses) → 2 ≤ codeOf x → spanFits x (spanOf p) ≡ true → 1 ≤ spanOf p
-    go nothing h e = absurd (omega arith)
-    go Encloses.statements h e = absurd (omega arith)
-    go one-expression h e = leb-true 1 (spanOf p) e
-    go expression-statements h e = leb-true 1 (spanOf p) e
-    go two-expressions h e = omega (arith, leb-true 2 (spanOf p) e)
+some-span {p = p} g h = omega (arith, leb-true _ (spanOf p) (span-some (enclosing p) (spanOf p) (λ z. omega arith) ∙ right-span g))
+
+-- one that encloses nothing is alone
+leaf-span : {s : Sort} {ends : Ends} {p : List ℕ} → Right s ends p → codeOf (enclosing p) ≡ 0 → spanOf p ≡ 0
+leaf-span {p = p} g h = eqb-true (spanOf p) 0 (span-none (enclosing p) (spanOf p) h ∙ right-span g)
 
 -- ---- a row, by its first record
 
-row-enclosing : {s : Sort} {p : List ℕ} → OfRow s → Right s within p → ¬ (enclosing p ≡ two-expressions)
-row-enclosing {p = p} o g = not-two (kindOf p) (row-kind o (kindOf p) (g .due) .1)
+pub row-enclosing : {s : Sort} {p : List ℕ} → OfRow s → Right s within p → codeOf (enclosing p) ≤ 3
+row-enclosing {p = p} o g = row-code (kindOf p) (row-kind o (kindOf p) (g .due) .1)
 
 pub row-first : (s : Sort) (d i : ℕ) (p : List ℕ) → OfRow s → ¬ (length p ≡ 0)
     → checkRows s d i p ≡ (headOf s d i p else (checkRows T.statement (d - 1) (bodyAt i p) (body p) else checkRows s d (i + 1 + spanOf p) (after p)))
@@ -177,19 +163,6 @@ row-first s d i p o n = go d (ℕ-discrete (recordFault s within p) 0)
         ∙ else-assoc (exprInside (enclosing p) d i p) (checkRows T.statement d (bodyAt i p) (body p)) (checkRows s (suc d) (i + 1 + spanOf p) (after p))
         ∙ ap (λ (e : ℕ). exprInside (enclosing p) e i p else (checkRows T.statement e (bodyAt i p) (body p) else checkRows s (suc d) (i + 1 + spanOf p) (after p))) (sym (sub-one (suc d)))
         ∙ ap (λ (v : Verdict). v else rest (suc d)) (head-below s (suc d) i p z (omega arith))
-
--- the number of a head's fault
-pub head-number : (s : Sort) (d i : ℕ) (p : List ℕ) → Numbers ofTable (headOf s d i p)
-unfolding headOf exprInside
-head-number s zero i p = own-number s within i p (fault 16 i) refl
-head-number s (suc d) i p = own-number s within i p _ (inside (enclosing p))
-  where
-    inside : (x : Encloses) → Numbers ofTable (exprInside x d i p)
-    inside nothing = tt
-    inside Encloses.statements = tt
-    inside one-expression = checkE-number d (i + 1) at-end (inner p)
-    inside expression-statements = checkE-number d (i + 1) within (inner p)
-    inside two-expressions = tt
 
 -- a head that passes
 pub record HeadFine (s : Sort) (d i : ℕ) (p : List ℕ) : Type 0 where
@@ -279,3 +252,12 @@ module _ {s : Sort} {d at : ℕ} {part : List ℕ} {off i : ℕ} (o : OfRow s) (
             row = rw (← q) (let m = length-after p in record { aligned = omega arith; placed = omega arith });
             decides = rw (← q) (sym (row-first s d i p o some ∙ rw (f, e) refl) ∙ l .decides);
           }
+
+      pub left-leaf : codeOf (enclosing (drop off part)) ≡ 0 → Left s d at part (off + 8) (i + 1)
+      left-leaf z =
+          let p = drop off part in
+          let n = leaf-span (head-fine s d i p f .own) z in
+          let a : off + 8 + 8 * spanOf p ≡ off + 8 = omega arith in
+          let b : i + 1 + spanOf p ≡ i + 1 = omega arith in
+          let e = ap length (sym (no-body (enclosing p) p (λ x. omega arith) (λ x. omega arith))) in
+          rw (a, b) at (left-next (row-empty T.statement (d - 1) (bodyAt i p) (body p) e))

@@ -1,33 +1,19 @@
 -- How the code of the check speaks of the definitions: the columns of the table of kinds, its enums, and what it asks of a part.
 -- Assumes nothing.
-use Prim.Native.Nat.{ℕ, zero, suc, _+_, _*_, _%_, _≤_, _<_}
+use Prim.Native.Nat.{ℕ, zero, suc, _+_, _*_, _/_, _%_, _≤_, _<_}
 use mathlib.Core.Path.{_≡_}
 use mathlib.Core.Bool.{_&&_, cond}
 use lib.Dec.{eqb}
 use mathlib.Core.List.{List, [], map}
 use lib.ListN.{length}
+use Rattle.rules.specs.Fields.{word}
 use Rattle.rules.specs.Table as T
-use Rattle.rules.specs.Table.{Encloses, nothing, one-expression, expression-statements, two-expressions, Field, unused, procedure-number, any, kinds, kindRow, kindOf, spanOf, inner, after, recordFault, unless, checkE}
+use Rattle.rules.specs.Table.{Encloses, nothing, one-expression, expression-statements, two-expressions, Field, unused, procedure-number, any, kinds, kindRow, kindOf, nameOf, spanOf, inner, after, recordFault, unless, checkE}
 use Rattle.table.specs.declared.check.Verdict.{Verdict}
 use Rattle.table.specs.declared.check.Sort.{Sort}
 use Rattle.table.specs.declared.check.Sort.the-variants.{Procedure, Statement, Expression}
 use Rattle.table.specs.declared.check.Ends.{Ends}
 use Rattle.table.specs.declared.check.Ends.the-variants.{AtEnd, BeforeEnd, Within}
-
--- the spans and the 32 bits of a value that a row of the table of kinds allows
-abbrev pub leastSpan : Encloses → ℕ
-leastSpan nothing = 0
-leastSpan Encloses.statements = 0
-leastSpan one-expression = 1
-leastSpan expression-statements = 1
-leastSpan two-expressions = 2
-
-abbrev pub mostSpan : Encloses → ℕ
-mostSpan nothing = 0
-mostSpan Encloses.statements = 65535
-mostSpan one-expression = 65535
-mostSpan expression-statements = 65535
-mostSpan two-expressions = 65535
 
 -- what a record encloses, as a number
 abbrev pub codeOf : Encloses → ℕ
@@ -37,6 +23,7 @@ codeOf one-expression = 2
 codeOf expression-statements = 3
 codeOf two-expressions = 4
 
+-- the most that the 32 bits of a value may be
 abbrev pub mostWord : Field → ℕ
 mostWord unused = 0
 mostWord procedure-number = 255
@@ -48,12 +35,6 @@ nameLeasts = map (λ k. k .least) kinds
 
 abbrev pub nameMosts : List ℕ
 nameMosts = map (λ k. k .most) kinds
-
-abbrev pub spanLeasts : List ℕ
-spanLeasts = map (λ k. leastSpan (k .encloses)) kinds
-
-abbrev pub spanMosts : List ℕ
-spanMosts = map (λ k. mostSpan (k .encloses)) kinds
 
 abbrev pub codes : List ℕ
 codes = map (λ k. codeOf (k .encloses)) kinds
@@ -75,6 +56,18 @@ endsOf Within = T.within
 -- the number and the place of each answer: both 0 where there is no fault
 abbrev pub verdictOf : Verdict → T.Verdict
 verdictOf v = cond (eqb (v .number) 0 && eqb (v .place) 0) T.fine (T.fault (v .number) (v .place))
+
+-- a verdict as one number: the fault's number, then 16 bits of place; 0 is none
+abbrev pub verdictIn : ℕ → T.Verdict
+verdictIn c = cond (eqb c 0) T.fine (T.fault (c / 65536) (c % 65536))
+
+-- the fields of the first record of a part, and the part's length
+pub record Fields (p : List ℕ) (kind name span value len : ℕ) : Type 0 where
+  pub kind-is : kind ≡ kindOf p
+  pub name-is : name ≡ nameOf p
+  pub span-is : span ≡ spanOf p
+  pub value-is : value ≡ word p 4
+  pub length-is : len ≡ length p
 
 -- whole records at index i within the table; at least one of them
 pub record Row (i : ℕ) (p : List ℕ) : Type 0 where

@@ -7,13 +7,14 @@ use crate::record::wide;
 use crate::record::word_of;
 ghost use mathlib.Core.Path.{_≡_};
 ghost use mathlib.Core.Bool.{_&&_};
+ghost use mathlib.Core.List.{List};
 ghost use lib.Dec.{leb};
-ghost use Prim.Native.Nat.{_+_, _*_, _≤_, _<_};
+ghost use Prim.Native.Nat.{ℕ, _+_, _*_, _≤_, _<_};
 ghost use lib.ListN.{length, getD};
-ghost use Rattle.rules.specs.Table.{kindOf, isOf, endsFit, spanRight, nameRight, valueRight, recordFault, checkE, checkRows, checkSpawns, namesNone, procedures, records, lengthFits, check};
-ghost use Rattle.rules.specs.Fields.{signed};
+ghost use Rattle.rules.specs.Table.{expression, within, kindOf, nameOf, spanOf, isOf, endsFit, spanRight, nameRight, valueRight, recordFault, checkE, checkRows, checkSpawns, namesNone, procedures, records, lengthFits, fault, check};
+ghost use Rattle.rules.specs.Fields.{signed, word};
 ghost use lib.IntN.{natAbs};
-ghost use Rattle.table.specs.Check.{nameLeasts, nameMosts, spanLeasts, spanMosts, codeOf, codes, enclosing, valueMosts, sortOf, endsOf, verdictOf, Part, Row, OfRow, headOf, body, bodyAt, Parted};
+ghost use Rattle.table.specs.Check.{nameLeasts, nameMosts, codeOf, codes, enclosing, valueMosts, sortOf, endsOf, verdictOf, verdictIn, Fields, Part, Row, OfRow, headOf, body, bodyAt, Parted};
 
 // What checking finds: the number and the place of a fault, or 0 and 0 where there is none.
 pub struct Verdict {
@@ -71,59 +72,6 @@ fn name_most(kind: usize) -> u8
     0
 }
 
-fn span_least(kind: usize) -> usize
-    requires { ⌜ kind < 13 ⌝ }
-    ensures { λ r. ⌜ r ≡ getD spanLeasts kind 0 ⌝ }
-{
-    if kind == 3 {
-        return 1;
-    }
-    if kind == 4 {
-        return 1;
-    }
-    if kind == 5 {
-        return 1;
-    }
-    if kind == 6 {
-        return 1;
-    }
-    if kind == 12 {
-        return 1;
-    }
-    if kind == 11 {
-        return 2;
-    }
-    0
-}
-
-fn span_most(kind: usize) -> usize
-    requires { ⌜ kind < 13 ⌝ }
-    ensures { λ r. ⌜ r ≡ getD spanMosts kind 0 ⌝ }
-{
-    if kind == 1 {
-        return 65535;
-    }
-    if kind == 3 {
-        return 65535;
-    }
-    if kind == 4 {
-        return 65535;
-    }
-    if kind == 5 {
-        return 65535;
-    }
-    if kind == 6 {
-        return 65535;
-    }
-    if kind == 11 {
-        return 65535;
-    }
-    if kind == 12 {
-        return 65535;
-    }
-    0
-}
-
 fn value_most(kind: usize) -> u32
     requires { ⌜ kind < 13 ⌝ }
     ensures { λ r. ⌜ r ≡ getD valueMosts kind 0 ⌝ }
@@ -138,32 +86,12 @@ fn value_most(kind: usize) -> u32
 }
 
 // What a kind encloses: 0 nothing, 1 statements, 2 an expression, 3 an expression and then statements, 4 two expressions.
+// Four bits for each kind in one number: a chain of tests would be compiled to a jump.
 fn code(kind: usize) -> u8
     requires { ⌜ kind < 13 ⌝ }
     ensures { λ r. ⌜ r ≡ getD codes kind 0 ⌝ }
 {
-    if kind == 1 {
-        return 1;
-    }
-    if kind == 3 {
-        return 2;
-    }
-    if kind == 6 {
-        return 2;
-    }
-    if kind == 12 {
-        return 2;
-    }
-    if kind == 4 {
-        return 3;
-    }
-    if kind == 5 {
-        return 3;
-    }
-    if kind == 11 {
-        return 4;
-    }
-    0
+    ((0x2400002332010u64 >> (4 * kind)) % 16) as u8
 }
 
 // What the first record of a part encloses.
@@ -203,88 +131,129 @@ fn ends_fit(ends: Ends, end: usize, len: usize) -> bool
     }
 }
 
-// Rule 13 of the first record of a part.
-fn span_right(part: &[u8], ends: Ends) -> bool
-    requires { ⌜ (8 ≤ length (now part)) × (kindOf (now part) < 13) ⌝ }
-    ensures { λ r. ⌜ r ≡ spanRight (endsOf ends) (now (part .entry)) ⌝ }
+// Rule 13 of a record, by its fields and the length of its part.
+fn span_right(kind: usize, span: usize, len: usize, ends: Ends) -> bool
+    requires { ⌜ (kind < 13) × (span < 65536) ⌝ }
+    ensures { λ r. ⌜ ((p : List ℕ) → kind ≡ kindOf p → span ≡ spanOf p → len ≡ length p → r ≡ spanRight (endsOf ends) p) ⌝ }
 {
-    let span = span_of(part);
-    if !ends_fit(ends, 8 + 8 * span, part.len()) {
+    if !ends_fit(ends, 8 + 8 * span, len) {
         return false;
     }
-    let kind = wide(part[0]);
-    if span < span_least(kind) {
-        return false;
+    let code = code(kind);
+    if code == 0 {
+        return span == 0;
     }
-    span <= span_most(kind)
+    wide(code / 2) <= span
 }
 
 // Rule 14.
-fn name_right(part: &[u8]) -> bool
-    requires { ⌜ (8 ≤ length (now part)) × (kindOf (now part) < 13) ⌝ }
-    ensures { λ r. ⌜ r ≡ nameRight (now (part .entry)) ⌝ }
+fn name_right(kind: usize, name: u8) -> bool
+    requires { ⌜ kind < 13 ⌝ }
+    ensures { λ r. ⌜ ((p : List ℕ) → kind ≡ kindOf p → name ≡ nameOf p → r ≡ nameRight p) ⌝ }
 {
-    let kind = wide(part[0]);
-    between(part[1], name_least(kind), name_most(kind))
+    between(name, name_least(kind), name_most(kind))
 }
 
 // Rule 15.
-fn value_right(part: &[u8]) -> bool
-    requires { ⌜ (8 ≤ length (now part)) × (kindOf (now part) < 13) ⌝ }
-    ensures { λ r. ⌜ r ≡ valueRight (now (part .entry)) ⌝ }
+fn value_right(kind: usize, value: u32) -> bool
+    requires { ⌜ kind < 13 ⌝ }
+    ensures { λ r. ⌜ ((p : List ℕ) → kind ≡ kindOf p → value ≡ word p 4 → r ≡ valueRight p) ⌝ }
 {
-    let kind = wide(part[0]);
-    word_of(part) <= value_most(kind)
+    value <= value_most(kind)
 }
 
-// The number of the first rule that the first record of a part breaks, 12 to 15, or 0.
-fn record_fault(part: &[u8], sort: Sort, ends: Ends) -> u8
-    requires { ⌜ 8 ≤ length (now part) ⌝ }
-    ensures { λ r. ⌜ r ≡ recordFault (sortOf sort) (endsOf ends) (now (part .entry)) ⌝ }
+// The number of the first rule that a record with these fields breaks, 12 to 15, or 0. Numbers and not the part, so that they stay in registers.
+fn fields_fault(
+    kind: u8,
+    name: u8,
+    span: usize,
+    value: u32,
+    len: usize,
+    sort: Sort,
+    ends: Ends,
+) -> u8
+    requires { ⌜ span < 65536 ⌝ }
+    ensures { λ r. ⌜ ((p : List ℕ) → Fields p kind name span value len → r ≡ recordFault (sortOf sort) (endsOf ends) p) ⌝ }
 {
-    if !is_of(sort, part[0]) {
+    if !is_of(sort, kind) {
         return 12;
     }
-    if !span_right(part, ends) {
+    let k = wide(kind);
+    if !span_right(k, span, len, ends) {
         return 13;
     }
-    if !name_right(part) {
+    if !name_right(k, name) {
         return 14;
     }
-    if value_right(part) { 0 } else { 15 }
+    if value_right(k, value) { 0 } else { 15 }
+}
+
+// The number of the first rule that the first record of a part breaks, 12 to 15, or 0: where an expression is due,
+fn expression_fault(part: &[u8], ends: Ends) -> u8
+    requires { ⌜ 8 ≤ length (now part) ⌝ }
+    ensures { λ r. ⌜ r ≡ recordFault expression (endsOf ends) (now (part .entry)) ⌝ }
+{
+    let span = span_of(part);
+    let value = word_of(part);
+    fields_fault(
+        part[0],
+        part[1],
+        span,
+        value,
+        part.len(),
+        Sort::Expression,
+        ends,
+    )
+}
+
+// and in a row.
+fn row_fault(part: &[u8], sort: Sort) -> u8
+    requires { ⌜ 8 ≤ length (now part) ⌝ }
+    ensures { λ r. ⌜ r ≡ recordFault (sortOf sort) within (now (part .entry)) ⌝ }
+{
+    let span = span_of(part);
+    let value = word_of(part);
+    fields_fault(
+        part[0],
+        part[1],
+        span,
+        value,
+        part.len(),
+        sort,
+        Ends::Within,
+    )
+}
+
+// A fault as one number, so that it is returned in a register; 0 is none.
+fn fault_code(number: u8, at: usize) -> u32
+    requires { ⌜ (0 < number) × (at ≤ 4096) ⌝ }
+    ensures { λ r. ⌜ verdictIn r ≡ fault number at ⌝ }
+{
+    (number as u32) * 65536 + (at as u32)
 }
 
 // The expression that a part starts with, with so many levels left for it; at is its place in the table.
-pub fn check_expr(part: &[u8], at: usize, left: usize, ends: Ends) -> Verdict
+fn check_expr(part: &[u8], at: usize, left: usize, ends: Ends) -> u32
     requires { ⌜ Part at (now part) ⌝ }
-    ensures { λ r. ⌜ verdictOf r ≡ checkE left at (endsOf ends) (now (part .entry)) ⌝ }
+    ensures { λ r. ⌜ verdictIn r ≡ checkE left at (endsOf ends) (now (part .entry)) ⌝ }
 {
-    let number = record_fault(part, Sort::Expression, ends);
+    let number = expression_fault(part, ends);
     if number != 0 {
-        return Verdict {
-            number: number as u32,
-            place: at as u32,
-        };
+        return fault_code(number, at);
     }
     if left == 0 {
-        return Verdict {
-            number: 16,
-            place: at as u32,
-        };
+        return fault_code(16, at);
     }
     let kind = part[0];
     if kind < 11 {
-        return Verdict {
-            number: 0,
-            place: 0,
-        };
+        return 0;
     }
     let inner = enclosed(part);
     if kind == 12 {
         return check_expr(inner, at + 1, left - 1, Ends::AtEnd);
     }
     let first = check_expr(inner, at + 1, left - 1, Ends::BeforeEnd);
-    if first.number != 0 {
+    if first != 0 {
         return first;
     }
     let next = at + 2 + span_of(inner);
@@ -292,34 +261,25 @@ pub fn check_expr(part: &[u8], at: usize, left: usize, ends: Ends) -> Verdict
 }
 
 // The first record of a row, with the expression that it encloses if any.
-fn check_head(part: &[u8], sort: Sort, at: usize, left: usize) -> Verdict
+fn check_head(part: &[u8], sort: Sort, at: usize, left: usize) -> u32
     requires { ⌜ Part at (now part) × OfRow (sortOf sort) ⌝ }
-    ensures { λ r. ⌜ verdictOf r ≡ headOf (sortOf sort) left at (now (part .entry)) ⌝ }
+    ensures { λ r. ⌜ verdictIn r ≡ headOf (sortOf sort) left at (now (part .entry)) ⌝ }
 {
-    let number = record_fault(part, sort, Ends::Within);
+    let number = row_fault(part, sort);
     if number != 0 {
-        return Verdict {
-            number: number as u32,
-            place: at as u32,
-        };
+        return fault_code(number, at);
     }
     if left == 0 {
-        return Verdict {
-            number: 16,
-            place: at as u32,
-        };
+        return fault_code(16, at);
     }
     let code = encloses(part);
+    if code < 2 {
+        return 0;
+    }
     if code == 2 {
         return check_expr(enclosed(part), at + 1, left - 1, Ends::AtEnd);
     }
-    if code == 3 {
-        return check_expr(enclosed(part), at + 1, left - 1, Ends::Within);
-    }
-    Verdict {
-        number: 0,
-        place: 0,
-    }
+    check_expr(enclosed(part), at + 1, left - 1, Ends::Within)
 }
 
 // The statements that a record of a row encloses.
@@ -353,30 +313,36 @@ fn body_at(part: &[u8], at: usize) -> usize
 }
 
 // A row of procedures or statements, with left levels for them.
-pub fn check_rows(part: &[u8], sort: Sort, at: usize, left: usize) -> Verdict
+fn check_rows(part: &[u8], sort: Sort, at: usize, left: usize) -> u32
     requires { ⌜ Row at (now part) × OfRow (sortOf sort) ⌝ }
-    ensures { λ r. ⌜ verdictOf r ≡ checkRows (sortOf sort) left at (now (part .entry)) ⌝ }
+    ensures { λ r. ⌜ verdictIn r ≡ checkRows (sortOf sort) left at (now (part .entry)) ⌝ }
 {
     let mut off: usize = 0;
     let mut i = at;
     while off < part.len() {
         let rest = from(part, off);
         let head = check_head(rest, sort, i, left);
-        if head.number != 0 {
+        if head != 0 {
             return head;
         }
-        let inside = check_rows(body_of(rest), Sort::Statement, body_at(rest, i), left - 1);
-        if inside.number != 0 {
-            return inside;
+        if encloses(rest) == 0 {
+            // The next record stands right here, whatever the span says: so the loop need not wait for it.
+            off += 8;
+            i += 1;
+        } else {
+            let body = body_of(rest);
+            if 0 < body.len() {
+                let inside = check_rows(body, Sort::Statement, body_at(rest, i), left - 1);
+                if inside != 0 {
+                    return inside;
+                }
+            }
+            let span = span_of(rest);
+            off = off + 8 + 8 * span;
+            i = i + 1 + span;
         }
-        let span = span_of(rest);
-        off = off + 8 + 8 * span;
-        i = i + 1 + span;
     }
-    Verdict {
-        number: 0,
-        place: 0,
-    }
+    0
 }
 
 // How many records of a table are procedures.
@@ -452,8 +418,11 @@ pub fn check_table(table: &[u8]) -> Verdict
     }
     let rows = check_rows(table, Sort::Procedure, 0, 17);
     let spawns = check_spawns(table, procedures_in(table));
-    if rows.number != 0 {
-        return rows;
+    if rows != 0 {
+        return Verdict {
+            number: rows / 65536,
+            place: rows % 65536,
+        };
     }
     spawns
 }

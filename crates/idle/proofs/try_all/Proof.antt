@@ -25,23 +25,23 @@ within c = spells _ (λ i. omega (arith, c .before .shared-slice-known .given i)
 
 -- how many turns are made
 turns : (c : tie.After-least2) → let o = c .before .before .before .before .before .before .before .before .before in let a = o .args in
-    Chosen (aheadIn (a .table .now) (idle (a .issued) (a .variables .now) (a .queue .now) (a .front) (a .queued)))
-    (a .budget - a .before .steps) ((length (a .log .now) - a .before .written) / 8) (c .least2 .result)
+    Chosen (aheadIn (a .table .now) (idle (a .bounds .issued) (a .variables .now) (a .queue .now) (a .front) (a .bounds .queued)))
+    (a .bounds .budget - a .before .steps) ((length (a .log .now) - a .before .written) / 8) (c .least2 .result)
 turns c = chosen _ _ _ _ _ (c .before .least .ensures) (rw (c .before .before .before .before .before .first-ready .ensures) at (c .least2 .ensures))
 
 -- some task is ready
 some-goes : (c : tie.Else2) → let a = c .before .before .before .before .before .args in
-    aheadIn (a .table .now) (idle (a .issued) (a .variables .now) (a .queue .now) (a .front) (a .queued)) < a .queued
+    aheadIn (a .table .now) (idle (a .bounds .issued) (a .variables .now) (a .queue .now) (a .front) (a .bounds .queued)) < a .bounds .queued
 some-goes c =
     let a = c .before .before .before .before .before .args in
-    let state = idle (a .issued) (a .variables .now) (a .queue .now) (a .front) (a .queued) in
+    let state = idle (a .bounds .issued) (a .variables .now) (a .queue .now) (a .front) (a .bounds .queued) in
     let l = ahead-length (canGo (recipes (recipeOf (a .table .now))) state) (state .queue) in
     let e = c .if2 .left in
-    omega (arith, c .before .first-ready .ensures, queue-length (a .queue .now) (a .front) (a .queued))
+    omega (arith, c .before .first-ready .ensures, queue-length (a .queue .now) (a .front) (a .bounds .queued))
 
 -- what the tests before the take-up said
 takes : (c : tie.After-take) → let a = c .before .before .before .before .before .before .before .before .before .before .before .before .before .before .before .args in
-    Takes (a .budget) (taken (entry (a .queue .now) (a .front) (c .before .before .before .before .before .before .least2 .result) .number)) (c .take .result .stop) (c .before .before .before .before .turn-first .result) (c .take .result .count)
+    Takes (a .bounds .budget) (taken (entry (a .queue .now) (a .front) (c .before .before .before .before .before .before .least2 .result) .number)) (c .take .result .stop) (c .before .before .before .before .turn-first .result) (c .take .result .count)
     (c .before .before .before .before .turn-first .last .1 .1 .1 .1 .1 .1 .1 .1 .0) (c .take .last .1 .1 .1 .1 .0)
 takes c = record { all = c .take .ensures .0 }
 
@@ -49,7 +49,7 @@ returns : tie.Need-returns
 returns c =
     let a = c .before .before .before .args in (
       (omega arith, λ e. absurd (not-more Finished refl e)),
-      λ u given x. finishes (a .table .now) (within (c .before)) (a .issued) (a .variables .now) (a .queue .now) (a .front) (a .queued) u (a .budget) given (a .before) (a .log .now) x (c .if1 .taken),
+      λ u given x. finishes (a .table .now) (within (c .before)) (a .bounds .issued) (a .variables .now) (a .queue .now) (a .front) (a .bounds .queued) u (a .bounds .budget) given (a .before) (a .log .now) x (c .if1 .taken),
     )
 
 first-ready-requires : tie.Need-first-ready-requires
@@ -61,7 +61,7 @@ returns-2 c =
     let a = c .before .before .before .before .before .args in
     let some-queued = c .before .before .if1 .left in (
       (omega arith, λ e. absurd (not-more Stuck refl e)),
-      λ u given x. jams (a .table .now) (within (c .before .before .before)) (a .issued) (a .variables .now) (a .queue .now) (a .front) (a .queued) u (a .budget) given (a .before) (a .log .now) x (omega arith)
+      λ u given x. jams (a .table .now) (within (c .before .before .before)) (a .bounds .issued) (a .variables .now) (a .queue .now) (a .front) (a .bounds .queued) u (a .bounds .budget) given (a .before) (a .log .now) x (omega arith)
           (sym (c .before .first-ready .ensures) ∙ c .if2 .taken),
     )
 
@@ -116,7 +116,7 @@ returns-3 c =
     let a = c .before .before .before .before .before .before .before .before .before .before .before .before .before .before .before .before .before .args in
     let t = c .before .before .take in
     let f = c .before .before .before .before .before .before .turn-first in
-    let state = idle (a .issued) (a .variables .now) (a .queue .now) (a .front) (a .queued) in
+    let state = idle (a .bounds .issued) (a .variables .now) (a .queue .now) (a .front) (a .bounds .queued) in
     let w = within (c .before .before .before .before .before .before .before .before .before .before .before .before .before .before .before) in
     let k = turns (c .before .before .before .before .before .before .before .before) in
     let s = some-goes (c .before .before .before .before .before .before .before .before .before .before .before .before) in
@@ -132,7 +132,7 @@ returns-3 c =
       ),
       λ u given x.
           rw e
-          (tries (a .table .now) w (a .issued) (a .variables .now) (a .queue .now) (a .front) (a .queued) u (a .budget) given _ _ _ _ _ _
+          (tries (a .table .now) w (a .bounds .issued) (a .variables .now) (a .queue .now) (a .front) (a .bounds .queued) u (a .bounds .budget) given _ _ _ _ _ _
           (f .ensures .0 u given x) s h (takes (c .before .before))
           (⊎-elim inl (λ g. inr (⊎-elim (λ i. inl (omega (arith, n .0))) (λ i. inr (omega (arith, n .1))) g)) (k .reason))),
     )

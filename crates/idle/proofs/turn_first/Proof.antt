@@ -12,13 +12,12 @@ use lib.IntN.{ℤ}
 use Rattle.rules.specs.State.{Task}
 use Rattle.rules.specs.Scheduler.{canGo}
 use Rattle.rules.specs.Steps.{recipes}
-use Rattle.rules.proofs.Lists.{getD-tab}
-use Rattle.state.specs.View.{taskOf, entry, queueOf}
+use Rattle.state.specs.View.{taskOf, entry}
 use Rattle.ready.specs.Ready.{idle}
 use Rattle.count.specs.declared.Count.{Count}
 use Rattle.idle.specs.Idle.{Turning}
 use Rattle.idle.proofs.Turning.{ahead-waits}
-use Rattle.idle.proofs.Trying.{Turned, turned-start, turned-more}
+use Rattle.idle.proofs.Trying.{queue-at, Turned, turned-start, turned-more}
 use Rattle.idle.proofs.turn_first.Statement.{statement}
 use Rattle.idle.proofs.turn_first.Tie as tie
 
@@ -43,12 +42,11 @@ loop-holds c = (omega arith, turned-start _ _ _ _ _ _ _ _ _)
 waits : (table queue : List ℕ) (variables : List ℤ) (front queued issued k budget : ℕ) (log : List ℕ) (n : Count)
     → Turning table queue variables front queued issued k budget log n → (i : ℕ) → i < k → i < queued
     → canGo (recipes (recipeOf table)) (idle issued variables queue front queued) (entry queue front i) ≡ false
-unfolding queueOf
 waits table queue variables front queued issued k budget log n t i l few =
     let state = idle issued variables queue front queued in
     let go = canGo (recipes (recipeOf table)) state in
     let h = t .waits in
-    subst (λ (u : Task ℕ). go u ≡ false) (getD-tab (entry queue front) queued i (entry queue front i) few) (ahead-waits go (state .queue) i (entry queue front i) (omega arith))
+    subst (λ (u : Task ℕ). go u ≡ false) (queue-at queue front queued i (entry queue front i) few) (ahead-waits go (state .queue) i (entry queue front i) (omega arith))
 
 waiting-at-requires : tie.Need-waiting-at-requires Inv-loop μ-loop
 waiting-at-requires c κs =

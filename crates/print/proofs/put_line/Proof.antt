@@ -4,7 +4,7 @@ use native.Mathlib.Omega.{arith}
 use lib.ListN.{length}
 use Rattle.rules.specs.Fields.{signed}
 use Rattle.rules.specs.Print.{bytes, kindWord, spaced, spacedValue, line}
-use Rattle.print.proofs.Buffers.{then, fits, front}
+use Rattle.text.proofs.Buffers.{then, fits, front}
 use Rattle.print.proofs.Texts.{line-length}
 use borrow.Author.Needs.{needs}
 use Rattle.print.proofs.put_line.Statement.{statement}

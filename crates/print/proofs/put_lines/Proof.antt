@@ -2,9 +2,9 @@ use Prim.Native.Nat.{ℕ, _*_, _-_, _≤_}
 use mathlib.Core.Path.{_≡_, sym, ap}
 use native.Mathlib.Omega.{arith}
 use Rattle.rules.specs.Print.{lines}
-use Rattle.print.specs.Puts.{Puts}
-use Rattle.print.proofs.Buffers as buffers
-use Rattle.print.proofs.Buffers.{none, reads-as, then}
+use Rattle.text.specs.Puts.{Puts}
+use Rattle.text.proofs.Buffers as buffers
+use Rattle.text.proofs.Buffers.{none, reads-as, then}
 use Rattle.print.proofs.Texts.{lines-none, lines-more}
 use Rattle.print.proofs.put_lines.Statement.{statement}
 use Rattle.print.proofs.put_lines.Tie as tie

@@ -3,7 +3,7 @@ use mathlib.Core.Path.{ap₂}
 use lib.ListN.{getD}
 use Rattle.rules.specs.Fields.{signed}
 use Rattle.rules.specs.Print.{line}
-use Rattle.print.proofs.Buffers.{reads-as}
+use Rattle.text.proofs.Buffers.{reads-as}
 use borrow.Author.Needs.{needs}
 use Rattle.print.proofs.put_record.Statement.{statement}
 use Rattle.print.proofs.put_record.Tie as tie

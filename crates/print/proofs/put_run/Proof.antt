@@ -2,7 +2,7 @@ use mathlib.Core.Path.{sym}
 use mathlib.Core.List.{[]}
 use native.Mathlib.Omega.{arith}
 use Rattle.runner.specs.Calls.{outcomeOf}
-use Rattle.print.proofs.Buffers.{reads-as, then}
+use Rattle.text.proofs.Buffers.{reads-as, then}
 use Rattle.print.proofs.Texts.{run-refused, run-ended}
 use borrow.Author.Needs.{needs}
 use Rattle.print.proofs.put_run.Statement.{statement}

@@ -1,7 +1,7 @@
 use mathlib.Core.Path.{sym}
 use native.Mathlib.Omega.{arith}
 use Rattle.rules.specs.Print.{runText}
-use Rattle.print.proofs.Buffers.{reads-as}
+use Rattle.text.proofs.Buffers.{reads-as}
 use Rattle.print.proofs.Texts.{start-refused, start-runs}
 use borrow.Author.Needs.{needs}
 use Rattle.print.proofs.put_text.Statement.{statement}

@@ -1,8 +1,9 @@
 use mathlib.Core.Path.{subst⁻¹, ap, _∙_}
+use mir.Facts.{toZ-ofZ}
 use borrow.Author.Needs.{needs}
 use Rattle.rules.specs.Table.{recipeOf}
 use Rattle.state.specs.View.{entry, queueOf}
-use Rattle.ready.specs.Ready.{idle, readyIn, Placed}
+use Rattle.ready.specs.Ready.{idle, readyIn, NotDone, Placed}
 use Rattle.ready.proofs.Queue.{every-at}
 use Rattle.ready.proofs.queued_at.Statement.{statement}
 use Rattle.ready.proofs.queued_at.Tie as tie
@@ -27,7 +28,7 @@ wait-of-requires c κs =
     let w = s .pre .0 in
     let r = recipeOf (a .table .now) in
     let placed = every-at (Placed r) (entry (a .queue .now) (a .front)) (a .queued) (w .placed) (a .i) (s .pre .1) in
-    (w .accepted, subst⁻¹ (Placed r) (c .unpack .ensures) placed, w .front-fits, w .few)
+    (w .accepted, subst⁻¹ (Placed r) (c .unpack .ensures) placed, w .front-fits, w .few, subst⁻¹ (NotDone (a .table .now) (idle (a .issued) (a .variables .now) (a .queue .now) (a .front) (a .queued))) (toZ-ofZ (s .fits .known)) (s .pre .2))
 
 returns : tie.Need-returns
 returns c =

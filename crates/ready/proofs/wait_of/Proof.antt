@@ -1,7 +1,11 @@
-use Prim.Native.Nat.{_+_, _*_}
+use Prim.Native.Nat.{ℕ, _+_, _*_}
+use mathlib.Core.Bool.{Bool, false}
 use mathlib.Core.Path.{_≡_, sym, ap, _∙_}
 use native.Mathlib.Omega.{arith}
 use lib.IntN.{ℤ}
+use mir.Val.{toZ, ofZ}
+use mir.Facts.{toZ-ofZ}
+use mir.Syntax.{w32}
 use lib.ListN.{getD}
 use borrow.Author.Needs.{needs}
 use Rattle.rules.specs.Recipe.{read}
@@ -10,26 +14,28 @@ use Rattle.rules.specs.Scheduler.{waits-for, isLive}
 use Rattle.rules.specs.Steps.{recipes, isDone}
 use Rattle.values.proofs.Exact.{result32}
 use Rattle.state.specs.View.{taskOf, queueOf}
+use Rattle.ready.specs.Ready.{idle, readyIn}
 use Rattle.ready.proofs.There.{Place, Await, await-read, free-there, wait-over, wait-on}
 use Rattle.ready.proofs.wait_of.Statement.{statement}
 use Rattle.ready.proofs.wait_of.Tie as tie
 
--- the value awaited, and what `is_done` says of it
-asked : (c : tie.After-is-done) →
-    let v = c .before in
-    let a = v .before .before .before .before .before .before .before .args in
+-- what the task reads under the name that its await has
+abbrev awaits : (c : tie.After-variable) → ℤ
+awaits c =
+    let a = c .before .before .before .before .before .before .before .args in
+    read (record { variables = a .variables .now; parameter = a .t .parameter }) (getD (a .table .now) (8 * a .t .place + 1) 0)
+
+abbrev live : (c : tie.After-variable) → ℕ → Bool
+live c =
+    let a = c .before .before .before .before .before .before .before .args in
+    isLive (recipes (recipeOf (a .table .now))) (queueOf (a .queue .now) (a .front) (a .queued))
+
+value : (c : tie.After-variable) → c .variable .result ≡ awaits c
+value c =
+    let a = c .before .before .before .before .before .before .before .args in
     let n = getD (a .table .now) (8 * a .t .place + 1) 0 in
-    let z = read (record { variables = a .variables .now; parameter = a .t .parameter }) n in
-    let live = isLive (recipes (recipeOf (a .table .now))) (queueOf (a .queue .now) (a .front) (a .queued)) in
-    (v .variable .result ≡ z) × (c .is-done .result ≡ isDone (a .issued) live z)
-asked c =
-    let v = c .before in
-    let a = v .before .before .before .before .before .before .before .args in
-    let n = getD (a .table .now) (8 * a .t .place + 1) 0 in
-    let live = isLive (recipes (recipeOf (a .table .now))) (queueOf (a .queue .now) (a .front) (a .queued)) in
-    let f = result32 (v .before .struct-told .given .1 .1 .0 .1) in
-    let e = v .variable .ensures ∙ ap (λ (p : ℤ). read (record { variables = a .variables .now; parameter = p }) n) f in
-    (e, c .is-done .ensures (recipeOf (a .table .now)) ∙ ap (isDone (a .issued) live) (result32 (v .variable .ok) ∙ e))
+    let f = result32 (c .before .struct-told .given .1 .1 .0 .1) in
+    c .variable .ensures ∙ ap (λ (p : ℤ). read (record { variables = a .variables .now; parameter = p }) n) f
 
 place : (c : tie.After-shared-slice-known) → Place (c .before .args .table .now) (c .before .args .t .place)
 place c =
@@ -57,24 +63,43 @@ shared-slice-read-variable c = there (c .before) .inside
 variable-requires : tie.Need-variable-requires
 variable-requires c κs = there (c .before .before) .named
 
-is-done-requires : tie.Need-is-done-requires
-is-done-requires c κs = search needs
+-- a value that is not done is waited for
+waits : (c : tie.After-variable) → let a = c .before .before .before .before .before .before .before .args in
+    isDone (a .issued) (live c) (awaits c) ≡ false
+    → waits-for (toZ w32 (ofZ w32 (c .variable .result))) ≡ readyIn (a .table .now) (idle (a .issued) (a .variables .now) (a .queue .now) (a .front) (a .queued)) (taskOf (a .t))
+waits c h =
+    let k = c .before .before .before in
+    ap waits-for (result32 (c .variable .ok) ∙ value c)
+    ∙ sym (wait-on _ _ _ (taskOf (k .before .before .before .before .args .t)) _ _ (there k .is) h)
 
 returns : tie.Need-returns
 returns c =
-    let k = c .before .before .before .before .before in
-    let t = taskOf (k .before .before .before .before .args .t) in
-    sym (wait-over _ _ _ t _ _ (there k .is) (sym (asked (c .before) .1) ∙ c .if2 .taken))
+    let v = c .before in
+    let s = v .before .before .before .before .before .before .before in
+    let same = sym (value v) ∙ sym (result32 (v .variable .ok)) ∙ ap (toZ w32) (c .if2 .taken) ∙ toZ-ofZ (s .fits .known) in
+    waits v (ap (isDone (s .args .issued) (live v)) same ∙ s .pre .4)
+
+is-done-requires : tie.Need-is-done-requires
+is-done-requires c κs = search needs
+
+done : (c : tie.After-is-done) → let v = c .before .before in
+    c .is-done .result ≡ isDone (v .before .before .before .before .before .before .before .args .issued) (live v) (awaits v)
+done c =
+    let v = c .before .before in
+    let a = v .before .before .before .before .before .before .before .args in
+    c .is-done .ensures (recipeOf (a .table .now)) ∙ ap (isDone (a .issued) (live v)) (result32 (v .variable .ok) ∙ value v)
 
 returns-2 : tie.Need-returns-2
 returns-2 c =
-    let k = c .before .before .before .before .before in
+    let k = c .before .before .before .before .before .before in
     let t = taskOf (k .before .before .before .before .args .t) in
-    ap waits-for (result32 (c .before .before .variable .ok) ∙ asked (c .before) .0)
-    ∙ sym (wait-on _ _ _ t _ _ (there k .is) (sym (asked (c .before) .1) ∙ c .if2 .left))
+    sym (wait-over _ _ _ t _ _ (there k .is) (sym (done (c .before)) ∙ c .if3 .taken))
 
 returns-3 : tie.Need-returns-3
-returns-3 c =
+returns-3 c = waits (c .before .before .before) (sym (done (c .before)) ∙ c .if3 .left)
+
+returns-4 : tie.Need-returns-4
+returns-4 c =
     let k = c .before .before .before in
     sym (free-there (place k) (sym (c .before .is-await .ensures) ∙ c .if1 .left) .waits-not _ _ (taskOf (k .before .args .t)))
 
@@ -88,7 +113,8 @@ wait-of-spec =
     add-variable
     shared-slice-read-variable
     variable-requires
-    is-done-requires
     returns
+    is-done-requires
     returns-2
-    returns-3)
+    returns-3
+    returns-4)

@@ -1,15 +1,21 @@
 use Prim.Native.Nat.{ℕ}
-use mathlib.Core.Path.{sym, ap, _∙_}
+use mathlib.Core.Path.{_≡_, refl, sym, ap, subst}
+use native.Mathlib.Omega.{arith}
 use Rattle.rules.specs.Table.{recipeOf}
 use Rattle.rules.specs.Places.{at}
 use Rattle.rules.specs.State as R
-use Rattle.rules.specs.Steps.{pastAt}
+use Rattle.rules.specs.Steps.{goTo, pastAt}
+use Rattle.state.specs.View.{taskOf, ring, entry}
 use borrow.Author.Needs.{needs}
 use Rattle.runner.proofs.drive.onward.Statement.{statement}
 use Rattle.runner.proofs.drive.onward.Tie as tie
 
-add-at : tie.Need-add-at
-add-at c = search needs
+-- the front, as it stands in the queue
+stood : (c : tie.After-unpack) → let a = c .before .before .before .args in taskOf (c .unpack .result) ≡ entry (a .queue .now) (a .front) 0
+stood c =
+    let o = c .before .before .before in
+    let k : ring (o .args .front) 0 ≡ o .args .front = omega (arith, o .pre .front-fits) in
+    rw k (c .unpack .ensures)
 
 mul-unpack : tie.Need-mul-unpack
 mul-unpack c = search needs
@@ -23,21 +29,17 @@ unpack-requires c κs = search needs
 past-requires : tie.Need-past-requires
 past-requires c κs =
     let given = c .before .before .before .pre in
-    let place = ap (λ (t : R.Task ℕ). t .place) (c .unpack .ensures) in
-    (given .accepted, rw place (given .placed), given .leads)
+    (given .accepted, rw (ap (λ (t : R.Task ℕ). t .place) (stood c)) (given .placed), given .leads)
 
 returns : tie.Need-returns
-returns c = λ t e.
-    let place = e ∙ ap (λ (t : R.Task ℕ). t .place) (sym (c .before .unpack .ensures)) in
-    ap (λ (i : ℕ). pastAt (at (recipeOf (c .before .before .before .before .args .table .now)) i) t) place ∙ c .past .ensures t place
+returns c =
+    let u = c .before in
+    let r = recipeOf (u .before .before .before .args .table .now) in
+    let place = c .past .result in (
+      subst (λ (t : R.Task ℕ). goTo (taskOf (u .unpack .result)) place ≡ pastAt (at r (t .place)) t) (stood u) (sym (c .past .ensures (taskOf (u .unpack .result)) refl)),
+      ap (λ (t : R.Task ℕ). goTo t place) (stood u),
+    )
 
 pub onward-spec : {M : Type 1} → statement M
 onward-spec =
-    tie.close
-    (tie.spec
-    add-at
-    mul-unpack
-    element-copy-out-unpack
-    unpack-requires
-    past-requires
-    returns)
+    tie.close (tie.spec mul-unpack element-copy-out-unpack unpack-requires past-requires returns)

@@ -1,11 +1,8 @@
-use mathlib.Core.Path.{refl, sym, _∙_}
+use mathlib.Core.Path.{sym, _∙_}
 use denote.Ref.{now}
 use borrow.Author.Tests.{not-true, not-false}
-use Rattle.rules.specs.Table.{procedure}
-use Rattle.rules.specs.Answers.{ofTable}
-use Rattle.rules.proofs.Answers.{rows-number}
 use Rattle.table.specs.Check.{OfRow}
-use Rattle.table.proofs.Told.{none-told, fault-told}
+use Rattle.table.proofs.Told.{none-in, fault-in, split-in}
 use Rattle.table.proofs.Whole.{fit-row, wrong-length, rows-fault, spawns-decide}
 use borrow.Author.Needs.{needs}
 use Rattle.table.proofs.check.check_table.Statement.{statement}
@@ -28,19 +25,19 @@ check-spawns-requires c κs = fit-row (now (c .before .before .before .before .b
 
 returns-2 : tie.Need-returns-2
 returns-2 c =
-    let k = c .before .before .before .before in
+    let k : tie.After-check-rows = search needs in
     let e = k .before in
-    let f = fault-told (k .check-rows .result) (c .if2 .taken) in
-    f ∙ rows-fault (now (e .before .before .before .args .table)) (sym (e .before .length-fits .ensures) ∙ not-false _ (e .if1 .left)) (sym (k .check-rows .ensures) ∙ f)
+    let n = c .if2 .taken in
+    split-in (k .check-rows .result) n
+    ∙ rows-fault (now (e .before .before .before .args .table)) (sym (e .before .length-fits .ensures) ∙ not-false _ (e .if1 .left)) (sym (k .check-rows .ensures) ∙ fault-in (k .check-rows .result) n)
 
 returns-3 : tie.Need-returns-3
 returns-3 c =
-    let s = c .before .before in
+    let s : tie.After-check-spawns = search needs in
     let k = s .before .before in
     let e = k .before in
     let t = now (e .before .before .before .args .table) in
-    let none = none-told ofTable (k .check-rows .result) (k .check-rows .ensures) (rows-number procedure 17 0 t) refl (c .if2 .left) in
-    s .check-spawns .ensures ∙ spawns-decide t (sym (e .before .length-fits .ensures) ∙ not-false _ (e .if1 .left)) none (s .before .procedures-in .ensures)
+    s .check-spawns .ensures ∙ spawns-decide t (sym (e .before .length-fits .ensures) ∙ not-false _ (e .if1 .left)) (sym (k .check-rows .ensures) ∙ none-in _ (c .if2 .left)) (s .before .procedures-in .ensures)
 
 pub check-table-spec : {M : Type 1} → statement M
 check-table-spec =

@@ -1,38 +1,19 @@
-use mathlib.Core.Path.{refl, sym}
-use mathlib.Core.List.{[], _∷_}
-use borrow.Author.Tests.{ne-eqb}
-use Rattle.table.specs.Check.{codes}
-use Rattle.table.proofs.Columns.{elsewhere}
+use Rattle.table.proofs.Columns.{packed}
 use borrow.Author.Needs.{needs}
 use Rattle.table.proofs.check.code.Statement.{statement}
 use Rattle.table.proofs.check.code.Tie as tie
-use Rattle.table.proofs.check.code.Reads as reads
+
+mul-result : tie.Need-mul-result
+mul-result c = search needs
+
+shr-result : tie.Need-shr-result
+shr-result c = search needs
+
+cast-result : tie.Need-cast-result
+cast-result c = search needs
 
 returns : tie.Need-returns
-returns c = search needs
-
-returns-2 : tie.Need-returns-2
-returns-2 c = search needs
-
-returns-3 : tie.Need-returns-3
-returns-3 c = search needs
-
-returns-4 : tie.Need-returns-4
-returns-4 c = search needs
-
-returns-5 : tie.Need-returns-5
-returns-5 c = search needs
-
-returns-6 : tie.Need-returns-6
-returns-6 c = search needs
-
-returns-7 : tie.Need-returns-7
-returns-7 c = search needs
-
-returns-8 : tie.Need-returns-8
-returns-8 c = sym (elsewhere codes (1 ∷ 3 ∷ 6 ∷ 12 ∷ 4 ∷ 5 ∷ 11 ∷ []) 13 refl _ (c .before .before .before .before .before .before .before .pre) (rw (ne-eqb _ _ (c .before .before .before .before .before .before .if1 .left), ne-eqb _ _ (c .before .before .before .before .before .if2 .left), ne-eqb _ _ (c .before .before .before .before .if3 .left), ne-eqb _ _ (c .before .before .before .if4 .left), ne-eqb _ _ (c .before .before .if5 .left), ne-eqb _ _ (c .before .if6 .left), ne-eqb _ _ (c .if7 .left)) refl))
+returns c = packed _ (c .pre)
 
 pub code-spec : {M : Type 1} → statement M
-code-spec =
-    tie.close
-    (tie.spec returns returns-2 returns-3 returns-4 returns-5 returns-6 returns-7 returns-8)
+code-spec = tie.close (tie.spec mul-result shr-result cast-result returns)
