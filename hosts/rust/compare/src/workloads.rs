@@ -5,9 +5,15 @@ use crate::recipe::{Recipe, AWAIT, IF, SET, SKIP, SUSPEND, TWO};
 use std::hint::black_box;
 
 /// The most records of a table.
-const RECORDS: usize = 4_096;
+pub const RECORDS: usize = 4_096;
+/// The most levels of the expression of a set in a loop: the loop has depth 1, the set 2, the expression 3 to 16.
+pub const LEVELS: usize = 14;
 /// The steps of a long call, and the records of its log.
 const STEPS: u32 = 4_096;
+/// Steps after which all tasks are spawned and have had a turn.
+const WARM: u32 = 200;
+/// The records of the statements that a mixed table repeats.
+const MIX: usize = 11;
 
 /// What is called, and what the time is counted by.
 #[derive(Clone, Copy, Debug, PartialEq, Eq)]
@@ -16,6 +22,8 @@ pub enum Unit {
     Step,
     /// A run, by itself.
     Call,
+    /// A start, by itself.
+    Start,
     /// A start, by the table's records.
     Record,
 }
@@ -43,7 +51,7 @@ impl Workload {
     pub fn units(&self) -> f64 {
         match self.unit {
             Unit::Step => f64::from(self.budget),
-            Unit::Call => 1.0,
+            Unit::Call | Unit::Start => 1.0,
             Unit::Record => (self.table.len() / 8) as f64,
         }
     }
@@ -56,7 +64,7 @@ impl Workload {
             block.copy_from_slice(&self.block);
             let table = black_box(&self.table);
             let good = match self.unit {
-                Unit::Record => (side.start)(table, &mut block) == [0, 0],
+                Unit::Start | Unit::Record => (side.start)(table, &mut block) == [0, 0],
                 _ => (side.run)(table, &mut block, self.budget, &mut log)[..2] == [1, self.budget],
             };
             assert!(good, "{}", self.name);
@@ -70,14 +78,34 @@ pub fn workloads() -> Vec<Workload> {
     use Unit::{Call, Record, Step};
     vec![
         Workload::new("loop", Step, local_loop(), 0, STEPS),
-        Workload::new("suspend", Step, suspenders(), 200, STEPS),
-        Workload::new("wait", Step, waiters(), 200, STEPS),
+        suspend(31),
+        wait(31),
         Workload::new("spawn", Step, spawner(), 0, STEPS),
-        Workload::new("deep", Step, deep(), 0, STEPS),
-        Workload::new("short-calls", Call, long_table(), 100, 10),
+        deep(LEVELS),
+        Workload::new("short-calls", Call, mixed_table(RECORDS), 100, 10),
         Workload::new("check-flat", Record, flat_table(), 0, 0),
         Workload::new("check-expressions", Record, expression_table(), 0, 0),
     ]
+}
+
+/// The steps of tasks that only suspend.
+pub fn suspend(tasks: usize) -> Workload {
+    Workload::new("suspend", Unit::Step, suspenders(tasks), WARM, STEPS)
+}
+
+/// The steps of one task that suspends while the others wait.
+pub fn wait(tasks: usize) -> Workload {
+    Workload::new("wait", Unit::Step, waiters(tasks), WARM, STEPS)
+}
+
+/// The steps of a loop of sets of nested expressions.
+pub fn deep(levels: usize) -> Workload {
+    Workload::new("deep", Unit::Step, nested_sets(levels), 0, STEPS)
+}
+
+/// The check of a table of statements and expressions.
+pub fn check(records: usize) -> Workload {
+    Workload::new("check", Unit::Start, mixed_table(records), 0, 0)
 }
 
 /// Sets a variable to itself and another by an operator.
@@ -110,23 +138,30 @@ fn local_loop() -> Recipe {
     recipe
 }
 
-/// 31 tasks that only suspend.
-fn suspenders() -> Recipe {
+/// Suspends again and again.
+fn suspend_forever(r: &mut Recipe) {
+    r.forever(|r| r.leaf(SUSPEND, 0, 0));
+}
+
+/// Tasks of which the first spawns the others, then suspends again and again.
+fn first_and_others(tasks: usize, other: impl FnOnce(&mut Recipe)) -> Recipe {
     let mut recipe = Recipe::new();
-    recipe.procedure(|r| (0..31).for_each(|_| r.spawn(8, 1, 0)));
-    recipe.procedure(|r| r.forever(|r| r.leaf(SUSPEND, 0, 0)));
+    recipe.procedure(|r| {
+        (1..tasks).for_each(|_| r.spawn(8, 1, 1));
+        suspend_forever(r);
+    });
+    recipe.procedure(other);
     recipe
 }
 
-/// 30 waiters behind one task that suspends: they wait for task 1, which goes on for ever.
-fn waiters() -> Recipe {
-    let mut recipe = Recipe::new();
-    recipe.procedure(|r| {
-        (0..30).for_each(|_| r.spawn(8, 1, 1));
-        r.forever(|r| r.leaf(SUSPEND, 0, 0));
-    });
-    recipe.procedure(|r| r.leaf(AWAIT, 64, 0));
-    recipe
+/// Tasks that only suspend.
+fn suspenders(tasks: usize) -> Recipe {
+    first_and_others(tasks, suspend_forever)
+}
+
+/// One task that suspends; the others wait for it, and it goes on for ever.
+fn waiters(tasks: usize) -> Recipe {
+    first_and_others(tasks, |r| r.leaf(AWAIT, 64, 0))
 }
 
 /// Spawns a task that ends at once, and waits for it.
@@ -142,47 +177,47 @@ fn spawner() -> Recipe {
     recipe
 }
 
-/// Nested operators down to depth 16, each with its nested operand first or last.
-fn nested(r: &mut Recipe, depth: u32, first: bool) {
-    if depth == 16 {
+/// Nested operators over a read at the last level, each with its nested operand first or last.
+fn nested(r: &mut Recipe, levels: usize, first: bool) {
+    if levels == 1 {
         return r.read(8);
     }
-    r.node(TWO, (depth % 8) as u8, 0, |r| {
+    r.node(TWO, (levels % 8) as u8, 0, |r| {
         if first {
-            nested(r, depth + 1, first);
+            nested(r, levels - 1, first);
         }
         r.constant(5);
         if !first {
-            nested(r, depth + 1, first);
+            nested(r, levels - 1, first);
         }
     });
 }
 
-/// Two sets of nested expressions in a loop; the loop has depth 1, its statements 2, their expressions 3.
-fn deep() -> Recipe {
+/// Two sets of nested expressions in a loop.
+fn nested_sets(levels: usize) -> Recipe {
     let mut recipe = Recipe::new();
     recipe.procedure(|r| {
         r.forever(|r| {
-            r.node(SET, 8, 0, |r| nested(r, 3, true));
-            r.node(SET, 9, 0, |r| nested(r, 3, false));
+            r.node(SET, 8, 0, |r| nested(r, levels, true));
+            r.node(SET, 9, 0, |r| nested(r, levels, false));
         });
     });
     recipe
 }
 
-/// Fills a table with skips up to its longest, inside the open procedure.
-fn fill(r: &mut Recipe) {
-    while r.records() < RECORDS {
+/// Fills a table with skips up to so many records, inside the open procedure.
+fn fill(r: &mut Recipe, records: usize) {
+    while r.records() < records {
         r.leaf(SKIP, 0, 0);
     }
 }
 
-/// A table of 4,096 records with statements of all kinds in a loop.
-fn long_table() -> Recipe {
+/// A table of statements and expressions in a loop.
+fn mixed_table(records: usize) -> Recipe {
     let mut recipe = Recipe::new();
     recipe.procedure(|r| {
         r.forever(|r| {
-            while r.records() < RECORDS - 20 {
+            while r.records() + MIX <= records {
                 set(r, 8, 0, 9);
                 r.leaf(SUSPEND, 0, 0);
                 r.node(IF, 0, 0, |r| {
@@ -192,7 +227,7 @@ fn long_table() -> Recipe {
                 r.node(SET, 9, 0, |r| r.constant(1));
                 r.leaf(SKIP, 0, 0);
             }
-            fill(r);
+            fill(r, records);
         });
     });
     recipe
@@ -207,7 +242,7 @@ fn flat_table() -> Recipe {
             r.leaf(SUSPEND, 0, 0);
             r.leaf(AWAIT, 8, 0);
         }
-        fill(r);
+        fill(r, RECORDS);
     });
     recipe
 }
@@ -230,7 +265,7 @@ fn expression_table() -> Recipe {
         while r.records() < RECORDS - 32 {
             r.node(SET, 8, 0, |r| tree(r, 4));
         }
-        fill(r);
+        fill(r, RECORDS);
     });
     recipe
 }

@@ -1,5 +1,7 @@
 //! "The log": 8 bytes a record, from the buffer's first byte.
 
+use crate::steps::Stop;
+
 /// What a step writes, kinds 1 to 7, with the value that the record carries.
 #[derive(Clone, Copy, Debug, PartialEq, Eq)]
 pub enum Event {
@@ -12,28 +14,28 @@ pub enum Event {
     Valve(u8, i32),
 }
 
-/// The records of the lent buffer that are still free, and how many were written. A last piece of under 8 bytes is
-/// never written.
+/// The lent buffer's records, and those that are still free. A last piece of under 8 bytes is never written.
 pub struct Log<'a> {
+    all: usize,
     free: std::slice::IterMut<'a, [u8; 8]>,
-    pub records: u32,
 }
 
 impl Log<'_> {
     /// "Each call writes from the log buffer's first byte."
     pub fn new(buffer: &mut [u8]) -> Log<'_> {
-        Log { free: buffer.as_chunks_mut().0.iter_mut(), records: 0 }
+        let free = buffer.as_chunks_mut().0.iter_mut();
+        Log { all: free.len(), free }
     }
 
-    /// "Under 8 bytes are free."
-    #[inline]
-    pub fn is_full(&self) -> bool {
-        self.free.len() == 0
+    /// How many records were written.
+    pub fn records(&self) -> u32 {
+        (self.all - self.free.len()) as u32
     }
 
-    /// "Byte 0 kind, byte 1 the valve (0 in other kinds), bytes 2–3 the task acting, bytes 4–7 a value."
+    /// "Byte 0 kind, byte 1 the valve (0 in other kinds), bytes 2–3 the task acting, bytes 4–7 a value." The stop is
+    /// "under 8 bytes are free", so a step writes before it changes anything.
     #[inline]
-    pub fn write(&mut self, task: u16, event: Event) {
+    pub fn write(&mut self, task: u16, event: Event) -> Result<(), Stop> {
         let (kind, valve, value) = match event {
             Event::Spawned(number) => (1, 0, i32::from(number)),
             Event::Taken => (2, 0, 0),
@@ -43,10 +45,10 @@ impl Log<'_> {
             Event::Ended => (6, 0, 0),
             Event::Valve(valve, value) => (7, valve, value),
         };
-        let Some(record) = self.free.next() else { return };
+        let record = self.free.next().ok_or(Stop::LogFull)?;
         let [t0, t1] = task.to_le_bytes();
         let [v0, v1, v2, v3] = value.to_le_bytes();
         *record = [kind, valve, t0, t1, v0, v1, v2, v3];
-        self.records += 1;
+        Ok(())
     }
 }

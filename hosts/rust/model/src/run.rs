@@ -1,8 +1,9 @@
 //! "What the runner says": the two operations, and the stops that are tried before each step.
 
 use crate::log::Log;
-use crate::state::{State, BLOCK, TASKS};
-use crate::table::{Fault, Node, Recipe};
+use crate::state::{State, BLOCK};
+use crate::steps::{Burst, Stop};
+use crate::table::{Fault, Recipe};
 
 /// What a start gives: "a number and a place".
 #[derive(Clone, Copy, Debug, PartialEq, Eq)]
@@ -24,7 +25,7 @@ pub struct Answer {
 /// ignores the block's old content."
 pub fn start(table: &[u8], state: &mut [u8]) -> Started {
     match Recipe::read(table) {
-        Err(fault) => Started { number: fault.number, place: fault.place },
+        Err(fault) => Started { number: fault.number.into(), place: fault.place.into() },
         Ok(_) if state.len() != BLOCK => Started { number: 21, place: 0 },
         Ok(_) => {
             State::fresh().write(state);
@@ -36,12 +37,12 @@ pub fn start(table: &[u8], state: &mut [u8]) -> Started {
 /// "Table first .. Then 21, 22, 23." A refused call changes neither state nor log.
 pub fn run(table: &[u8], state: &mut [u8], budget: u32, log: &mut [u8]) -> Answer {
     match read(table, state) {
-        Err(fault) => Answer { number: fault.number, steps: 0, records: 0, place: fault.place },
+        Err(fault) => Answer { number: fault.number.into(), steps: 0, records: 0, place: fault.place.into() },
         Ok((recipe, mut current)) => {
             let mut log = Log::new(log);
-            let (number, steps) = go(&recipe, &mut current, budget, &mut log);
+            let (stop, left) = go(&recipe, &mut current, budget, &mut log);
             current.write(state);
-            Answer { number, steps, records: log.records, place: 0 }
+            Answer { number: stop as u32, steps: budget - left, records: log.records(), place: 0 }
         }
     }
 }
@@ -53,47 +54,53 @@ fn read(table: &[u8], block: &[u8]) -> Result<(Recipe, State), Fault> {
     Ok((recipe, state))
 }
 
-/// "Before each step 0, 2, 1, 3, 4, 5 are tried in this order." Gives the number that stops the run, and the steps.
-fn go(recipe: &Recipe, state: &mut State, budget: u32, log: &mut Log) -> (u32, u32) {
-    let mut steps = 0;
-    // Turning changes neither variables nor live tasks, so "none ready" is settled once until a task is taken up.
-    let mut ready = false;
+/// "Before each step 0, 2, 1, 3, 4, 5 are tried in this order." Gives the stop, and the steps that are left.
+fn go(recipe: &Recipe, state: &mut State, mut left: u32, log: &mut Log) -> (Stop, u32) {
     loop {
-        let next = state.active.map(|task| recipe.at(task.place));
-        if next.is_none() {
-            if state.queue.is_empty() {
-                return (0, steps);
-            }
-            ready = ready || state.any_ready(recipe);
-            if !ready {
-                return (2, steps);
-            }
+        let done =
+            if state.active { burst(recipe, state, &mut left, log) } else { tries(recipe, state, &mut left, log) };
+        if let Err(stop) = done {
+            return (stop, left);
         }
-        if steps == budget {
-            return (1, steps);
-        }
-        if let Some(number) = limit(state, next, log) {
-            return (number, steps);
-        }
-        match next {
-            Some(node) => {
-                ready = false;
-                state.act(recipe, node, log);
-            }
-            None => state.try_front(recipe, log),
-        }
-        steps += 1;
     }
 }
 
-/// The stops 3, 4 and 5; without a node the next step is a try. A skip, a test and a set of names 8 to 64 write no
-/// record.
-fn limit(state: &State, next: Option<Node>, log: &Log) -> Option<u32> {
-    match next {
-        Some(Node::Skip { .. } | Node::Set { .. } | Node::Test { .. }) => None,
-        Some(Node::Spawn { .. }) if state.live() == TASKS => Some(3),
-        Some(Node::Spawn { .. }) if state.issued == u16::MAX => Some(4),
-        _ if log.is_full() => Some(5),
-        _ => None,
+/// One step, if the budget has one left and nothing else stops it.
+#[inline]
+fn step<T>(left: &mut u32, row: impl FnOnce() -> Result<T, Stop>) -> Result<T, Stop> {
+    if *left == 0 {
+        return Err(Stop::Paused);
     }
+    let done = row()?;
+    *left -= 1;
+    Ok(done)
+}
+
+/// The steps of the active task, until it gives way, waits or ends.
+#[inline]
+fn burst(recipe: &Recipe, state: &mut State, left: &mut u32, log: &mut Log) -> Result<(), Stop> {
+    let mut task = state.tasks.first();
+    loop {
+        match step(left, || state.act(recipe, &mut task, log)) {
+            Ok(Burst::On) => {}
+            Ok(Burst::Over) => return Ok(()),
+            Err(stop) => {
+                state.tasks.set_first(task);
+                return Err(stop);
+            }
+        }
+    }
+}
+
+/// The tries with none active, until a task is taken up. Turning changes neither variables nor live tasks, so the first
+/// ready task is looked for once, and those before it are turned without being tested again.
+#[inline]
+fn tries(recipe: &Recipe, state: &mut State, left: &mut u32, log: &mut Log) -> Result<(), Stop> {
+    if state.tasks.live() == 0 {
+        return Err(Stop::Finished);
+    }
+    for _ in 0..state.before_ready(recipe)? {
+        step(left, || state.turn(recipe, log))?;
+    }
+    step(left, || state.take_up(recipe, log))
 }

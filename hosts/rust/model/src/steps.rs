@@ -1,126 +1,158 @@
 //! "Steps": one function for each kind of row of the list.
 
 use crate::log::{Event, Log};
-use crate::state::{State, Task};
+use crate::state::State;
 use crate::table::{Node, Recipe};
-use crate::values::{Context, Variables};
+use crate::tasks::{Task, TASKS};
+use crate::values::Context;
 
-/// "Each queued task is ready, or waits with the number it waits for."
+/// The named stops, by their numbers in "What the runner says".
 #[derive(Clone, Copy, Debug, PartialEq, Eq)]
-pub enum Queued {
-    Ready,
-    Waits(i32),
+pub enum Stop {
+    Finished = 0,
+    Paused = 1,
+    Stuck = 2,
+    Tasks = 3,
+    Spent = 4,
+    LogFull = 5,
 }
 
-/// What a task's expressions and awaits are worked out from.
-fn context<'a>(recipe: &'a Recipe, variables: &'a Variables, task: &Task) -> Context<'a> {
-    Context { nodes: recipe.nodes(), variables, parameter: task.parameter }
-}
-
-/// The value of a statement's expression, which stands right after the statement.
-fn argument(recipe: &Recipe, variables: &Variables, task: &Task) -> i32 {
-    context(recipe, variables, task).value(usize::from(task.place) + 1)
-}
-
-/// "Names 0–63 are shared variables .. Name 64 is the task's own parameter."
-fn set(variables: &mut Variables, task: &mut Task, name: u8, value: i32) {
-    match variables.get_mut(usize::from(name)) {
-        Some(variable) => *variable = value,
-        None => task.parameter = value,
-    }
+/// Whether a burst goes on after a step, or the task gave way, waits or ended.
+#[derive(Clone, Copy, Debug, PartialEq, Eq)]
+pub enum Burst {
+    On,
+    Over,
 }
 
 impl State {
-    /// "It waits if its next statement is an await and the variable's value now is not a done number."
-    pub fn queued(&self, recipe: &Recipe, task: &Task) -> Queued {
-        let Node::Await { name, .. } = recipe.at(task.place) else { return Queued::Ready };
-        let number = context(recipe, &self.variables, task).read(name);
-        if self.is_done(number) {
-            Queued::Ready
-        } else {
-            Queued::Waits(number)
+    /// What a task's expressions and awaits are worked out from.
+    #[inline]
+    fn context<'a>(&'a self, recipe: &'a Recipe, task: &Task) -> Context<'a> {
+        Context { nodes: recipe.nodes(), variables: &self.variables, parameter: task.parameter }
+    }
+
+    /// The value of a statement's expression, which stands right after the statement.
+    #[inline]
+    fn argument(&self, recipe: &Recipe, task: &Task) -> i32 {
+        self.context(recipe, task).value(usize::from(task.place) + 1)
+    }
+
+    /// "Names 0–63 are shared variables .. Name 64 is the task's own parameter."
+    #[inline]
+    fn set(&mut self, task: &mut Task, name: u8, value: i32) {
+        match self.variables.get_mut(usize::from(name)) {
+            Some(variable) => *variable = value,
+            None => task.parameter = value,
         }
     }
 
-    /// Without one, a queue that is not empty is "stuck".
-    pub fn any_ready(&self, recipe: &Recipe) -> bool {
-        self.queue.iter().any(|task| self.queued(recipe, task) == Queued::Ready)
+    /// The number of the await that a task stands at, if at one: "the variable's value now".
+    #[inline]
+    fn awaited(&self, recipe: &Recipe, task: &Task) -> Option<i32> {
+        match recipe.at(task.place) {
+            Node::Await { name, .. } => Some(self.context(recipe, task).read(name)),
+            _ => None,
+        }
     }
 
-    /// "With a task active, one step is": the row for the node that the task stands at.
-    pub fn act(&mut self, recipe: &Recipe, node: Node, log: &mut Log) {
-        let Some(task) = &mut self.active else { return };
-        match node {
+    /// Not "it waits if its next statement is an await and the variable's value now is not a done number".
+    #[inline]
+    fn is_ready(&self, recipe: &Recipe, task: &Task) -> bool {
+        self.awaited(recipe, task).is_none_or(|number| self.is_done(number))
+    }
+
+    /// How many queued tasks stand before the first ready one. Without one, a queue that is not empty is "stuck".
+    #[inline]
+    pub fn before_ready(&self, recipe: &Recipe) -> Result<usize, Stop> {
+        let ready = |&before: &usize| self.is_ready(recipe, &self.tasks.at(before));
+        (0..self.tasks.live()).find(ready).ok_or(Stop::Stuck)
+    }
+
+    /// "With a task active, one step is": the row for the node that the task stands at. The stops 3, 4 and 5 are tried
+    /// where they can come; a skip, a test and a set of names 8 to 64 write no record.
+    #[inline]
+    pub fn act(&mut self, recipe: &Recipe, task: &mut Task, log: &mut Log) -> Result<Burst, Stop> {
+        match recipe.at(task.place) {
             Node::Skip { next } => task.place = next,
             Node::Set { name, next } => {
-                let value = argument(recipe, &self.variables, task);
-                set(&mut self.variables, task, name, value);
+                let value = self.argument(recipe, task);
+                self.set(task, name, value);
                 task.place = next;
             }
             Node::Valve { name, next } => {
-                let value = argument(recipe, &self.variables, task);
-                set(&mut self.variables, task, name, value);
+                let value = self.argument(recipe, task);
+                log.write(task.number, Event::Valve(name, value))?;
+                self.set(task, name, value);
                 task.place = next;
-                log.write(task.number, Event::Valve(name, value));
             }
-            Node::Test { yes, no } => {
-                let value = argument(recipe, &self.variables, task);
-                task.place = if value != 0 { yes } else { no };
+            Node::Test { yes, no } => task.place = if self.argument(recipe, task) != 0 { yes } else { no },
+            Node::Spawn { name, procedure, next } => {
+                self.spawn(recipe, task, name, procedure, log)?;
+                task.place = next;
             }
-            Node::Spawn { name, procedure, next } => self.spawn(recipe, name, procedure, next, log),
             Node::Suspend { next } => {
-                task.place = next;
-                log.write(task.number, Event::Gave);
-                self.put_back();
+                log.write(task.number, Event::Gave)?;
+                self.put_back(Task { place: next, ..*task });
+                return Ok(Burst::Over);
             }
             Node::Await { name, .. } => {
-                let number = context(recipe, &self.variables, task).read(name);
-                log.write(task.number, Event::Waits(number));
-                self.put_back();
+                let number = self.context(recipe, task).read(name);
+                log.write(task.number, Event::Waits(number))?;
+                self.put_back(*task);
+                return Ok(Burst::Over);
             }
             _ => {
-                log.write(task.number, Event::Ended);
-                self.active = None;
+                log.write(task.number, Event::Ended)?;
+                self.active = false;
+                self.tasks.leave();
+                return Ok(Burst::Over);
             }
         }
+        Ok(Burst::On)
     }
 
     /// "The argument is worked out, the next number goes into the variable, the new task joins the back."
-    fn spawn(&mut self, recipe: &Recipe, name: u8, procedure: u8, next: u16, log: &mut Log) {
-        let Some(task) = &mut self.active else { return };
-        let parameter = argument(recipe, &self.variables, task);
-        self.issued = self.issued.saturating_add(1);
-        let number = self.issued;
-        set(&mut self.variables, task, name, i32::from(number));
-        task.place = next;
-        self.queue.push_back(Task { number, place: recipe.entry(procedure), parameter });
-        log.write(task.number, Event::Spawned(number));
-    }
-
-    /// Suspend and await: the active task joins the back.
-    fn put_back(&mut self) {
-        self.queue.extend(self.active.take());
-    }
-
-    /// "A try of the front: a ready task becomes active (past its await, if it stood at one), another is turned to the
-    /// back."
-    pub fn try_front(&mut self, recipe: &Recipe, log: &mut Log) {
-        let Some(&front) = self.queue.front() else { return };
-        let queued = self.queued(recipe, &front);
-        self.queue.pop_front();
-        match queued {
-            Queued::Ready => {
-                let place = match recipe.at(front.place) {
-                    Node::Await { next, .. } => next,
-                    _ => front.place,
-                };
-                self.active = Some(Task { place, ..front });
-                log.write(front.number, Event::Taken);
-            }
-            Queued::Waits(number) => {
-                self.queue.push_back(front);
-                log.write(front.number, Event::Turned(number));
-            }
+    #[inline]
+    fn spawn(&mut self, recipe: &Recipe, task: &mut Task, name: u8, procedure: u8, log: &mut Log) -> Result<(), Stop> {
+        if self.tasks.live() == TASKS {
+            return Err(Stop::Tasks);
         }
+        let number = self.issued.checked_add(1).ok_or(Stop::Spent)?;
+        log.write(task.number, Event::Spawned(number))?;
+        let parameter = self.argument(recipe, task);
+        self.issued = number;
+        self.set(task, name, i32::from(number));
+        self.tasks.join(Task { number, place: recipe.entry(procedure), parameter });
+        Ok(())
+    }
+
+    /// The first task joins the back, and no task is active: suspend, await, and a turn.
+    #[inline]
+    fn put_back(&mut self, task: Task) {
+        self.active = false;
+        self.tasks.leave();
+        self.tasks.join(task);
+    }
+
+    /// A try of a front that waits: it "is turned to the back".
+    #[inline]
+    pub fn turn(&mut self, recipe: &Recipe, log: &mut Log) -> Result<(), Stop> {
+        let front = self.tasks.first();
+        let number = self.awaited(recipe, &front).unwrap_or(0);
+        log.write(front.number, Event::Turned(number))?;
+        self.put_back(front);
+        Ok(())
+    }
+
+    /// A try of a front that is ready: it "becomes active (past its await, if it stood at one)".
+    #[inline]
+    pub fn take_up(&mut self, recipe: &Recipe, log: &mut Log) -> Result<(), Stop> {
+        let front = self.tasks.first();
+        log.write(front.number, Event::Taken)?;
+        if let Node::Await { next, .. } = recipe.at(front.place) {
+            self.tasks.set_first(Task { place: next, ..front });
+        }
+        self.active = true;
+        Ok(())
     }
 }

@@ -3,14 +3,19 @@
 /// Why a call is refused: a number of the published list, and the faulty record.
 #[derive(Clone, Copy, Debug, PartialEq, Eq)]
 pub struct Fault {
-    pub number: u32,
-    pub place: u32,
+    pub number: u16,
+    pub place: u16,
 }
 
 impl Fault {
     /// The number, and "the faulty record; 0 where none is named".
-    pub fn at(number: u32, place: usize) -> Fault {
-        Fault { number, place: place as u32 }
+    pub fn at(number: u16, place: usize) -> Fault {
+        Fault { number, place: place as u16 }
+    }
+
+    /// "A procedure, statement or expression was due and the kind is another."
+    fn kind(place: usize) -> Fault {
+        Fault::at(12, place)
     }
 }
 
@@ -21,48 +26,53 @@ const DEPTH: u32 = 16;
 /// "Names 0–63 are shared variables, of which 0–7 are valves."
 const VALVES: u8 = 8;
 
-/// What can be due at a record.
-#[derive(Clone, Copy, PartialEq, Eq)]
-enum Due {
-    Procedure,
-    Statement,
-    Expression,
-}
-
-/// A row of the table of kinds; the ranges hold their last value too.
+/// A row of the table of kinds: names, what is enclosed, values; the ranges hold their last value too.
 struct Row {
-    due: Due,
     names: (u8, u8),
-    spans: (u16, u16),
-    values: (i32, i32),
+    encloses: Encloses,
+    values: Values,
 }
 
-/// A row as the document writes it: what it is due as, names, what it encloses, values.
-const fn row(due: Due, names: (u8, u8), spans: (u16, u16), values: (i32, i32)) -> Row {
-    Row { due, names, spans, values }
+/// What a record encloses.
+#[derive(Clone, Copy, PartialEq, Eq)]
+enum Encloses {
+    Nothing,
+    /// So many records or more.
+    Least(u16),
 }
 
-/// "The value field is 0 except in kinds 6 and 9."
-const ZERO: (i32, i32) = (0, 0);
-const NOTHING: (u16, u16) = (0, 0);
-const ANY: (u16, u16) = (0, u16::MAX);
-const ONE_OR_MORE: (u16, u16) = (1, u16::MAX);
-const TWO_OR_MORE: (u16, u16) = (2, u16::MAX);
+/// "The value field is 0 except in kinds 6 and 9", where it is a procedure's number, 0 to 255, or any value.
+#[derive(Clone, Copy, PartialEq, Eq)]
+enum Values {
+    Zero,
+    Byte,
+    Any,
+}
+
+/// A row as the document writes it.
+const fn row(names: (u8, u8), encloses: Encloses, values: Values) -> Row {
+    Row { names, encloses, values }
+}
+
+const NOTHING: Encloses = Encloses::Nothing;
+const ANY: Encloses = Encloses::Least(0);
+const ONE: Encloses = Encloses::Least(1);
+const TWO: Encloses = Encloses::Least(2);
 
 /// Kinds 1 to 12.
 const ROWS: [Row; 12] = [
-    row(Due::Procedure, (0, 0), ANY, ZERO),
-    row(Due::Statement, (0, 0), NOTHING, ZERO),
-    row(Due::Statement, (0, 64), ONE_OR_MORE, ZERO),
-    row(Due::Statement, (0, 0), ONE_OR_MORE, ZERO),
-    row(Due::Statement, (0, 0), ONE_OR_MORE, ZERO),
-    row(Due::Statement, (8, 64), ONE_OR_MORE, (0, 255)),
-    row(Due::Statement, (0, 0), NOTHING, ZERO),
-    row(Due::Statement, (0, 64), NOTHING, ZERO),
-    row(Due::Expression, (0, 0), NOTHING, (i32::MIN, i32::MAX)),
-    row(Due::Expression, (0, 64), NOTHING, ZERO),
-    row(Due::Expression, (0, 7), TWO_OR_MORE, ZERO),
-    row(Due::Expression, (0, 1), ONE_OR_MORE, ZERO),
+    row((0, 0), ANY, Values::Zero),
+    row((0, 0), NOTHING, Values::Zero),
+    row((0, 64), ONE, Values::Zero),
+    row((0, 0), ONE, Values::Zero),
+    row((0, 0), ONE, Values::Zero),
+    row((8, 64), ONE, Values::Byte),
+    row((0, 0), NOTHING, Values::Zero),
+    row((0, 64), NOTHING, Values::Zero),
+    row((0, 0), NOTHING, Values::Any),
+    row((0, 64), NOTHING, Values::Zero),
+    row((0, 7), TWO, Values::Zero),
+    row((0, 1), ONE, Values::Zero),
 ];
 
 /// What stands at a record. A statement knows the places that it leads to; its expression, and the first operand of an
@@ -101,14 +111,10 @@ impl Recipe {
         if records.is_empty() || !rest.is_empty() || records.len() > RECORDS {
             return Err(Fault::at(11, 0));
         }
-        let mut reader = Reader { records, nodes: vec![Node::End; records.len() + 1], entries: Vec::new() };
+        let mut reader = Reader { records, nodes: vec![Node::End; records.len() + 1], entries: Vec::new(), highest: 0 };
         reader.procedures()?;
-        let count = reader.entries.len();
-        let unknown = |node: &Node| matches!(node, Node::Spawn { procedure, .. } if usize::from(*procedure) >= count);
-        match reader.nodes.iter().position(unknown) {
-            Some(place) => Err(Fault::at(17, place)),
-            None => Ok(Recipe { nodes: reader.nodes, entries: reader.entries }),
-        }
+        reader.spawns()?;
+        Ok(Recipe { nodes: reader.nodes, entries: reader.entries })
     }
 
     /// The node at a place; past the table there is nothing to do.
@@ -139,160 +145,253 @@ impl Recipe {
     }
 }
 
-/// Where an expression has to stop within the part that it stands in.
-#[derive(Clone, Copy, PartialEq, Eq)]
-enum Reach {
-    /// A statement, a procedure, a test.
-    Within,
-    /// A sole or last operand: at the part's end.
-    Whole,
-    /// A first operand: short of the end, to leave a second one.
-    Short,
-}
-
-/// A part of the table: from an index up to an end, with the depth of its records.
+/// Where what a record encloses may end.
 #[derive(Clone, Copy)]
-struct Part {
-    at: usize,
-    end: usize,
-    depth: u32,
+struct Ends {
+    least: usize,
+    most: usize,
 }
 
-/// The fields of a record that has passed, and the index after what it encloses.
-struct Record {
-    kind: u8,
-    name: u8,
-    value: i32,
-    after: usize,
+impl Ends {
+    /// A procedure, a statement, a test: not "over the enclosing end".
+    fn within(end: usize) -> Ends {
+        Ends { least: 0, most: end }
+    }
+
+    /// A "sole or last operand": at the enclosing end.
+    fn whole(end: usize) -> Ends {
+        Ends { least: end, most: end }
+    }
+
+    /// A first operand: short of the enclosing end, not "leaving none for a second operand".
+    fn short(end: usize) -> Ends {
+        Ends { least: 0, most: end - 1 }
+    }
+}
+
+/// A record as one number, little-endian: "byte 0 is the kind, byte 1 the name, bytes 2–3 the span .., bytes 4–7 the
+/// value".
+#[derive(Clone, Copy)]
+struct Record(u64);
+
+impl Record {
+    #[inline]
+    fn kind(self) -> u8 {
+        self.0 as u8
+    }
+
+    #[inline]
+    fn name(self) -> u8 {
+        (self.0 >> 8) as u8
+    }
+
+    #[inline]
+    fn span(self) -> u16 {
+        (self.0 >> 16) as u16
+    }
+
+    #[inline]
+    fn value(self) -> i32 {
+        (self.0 >> 32) as i32
+    }
 }
 
 struct Reader<'a> {
     records: &'a [[u8; 8]],
     nodes: Vec<Node>,
     entries: Vec<u16>,
+    /// The highest procedure that a spawn names.
+    highest: u8,
 }
 
 impl Reader<'_> {
     /// Notes what stands at a record.
+    #[inline]
     fn put(&mut self, at: usize, node: Node) {
         if let Some(slot) = self.nodes.get_mut(at) {
             *slot = node;
         }
     }
 
-    /// Checks the first record of a part. "Within it 12 to 16 in order."
-    fn record(&self, part: Part, due: Due, reach: Reach) -> Result<Record, Fault> {
-        let fault = |number| Err(Fault::at(number, part.at));
-        let Some(&[kind, name, s0, s1, v0, v1, v2, v3]) = self.records.get(part.at) else {
-            return fault(12);
+    /// A record; past the table there is none of any kind.
+    #[inline]
+    fn record(&self, at: usize) -> Record {
+        Record(self.records.get(at).map_or(0, |record| u64::from_le_bytes(*record)))
+    }
+
+    /// Checks a record of a known kind: "within it 12 to 16 in order", 12 being settled. Gives the index after what it
+    /// encloses. A leaf's is at hand without its span, so that the next record does not wait for the span to be loaded;
+    /// the kind is a constant at each call, where only what its row asks for is left of this function.
+    #[inline(always)]
+    fn check(record: Record, kind: usize, at: usize, ends: Ends, depth: u32) -> Result<usize, Fault> {
+        let row = &ROWS[kind - 1];
+        let (after, spans) = match row.encloses {
+            Encloses::Nothing => (at + 1, record.span() == 0),
+            Encloses::Least(least) => (at + 1 + usize::from(record.span()), record.span() >= least),
         };
-        let row = match ROWS.get(usize::from(kind).wrapping_sub(1)) {
-            Some(row) if row.due == due => row,
-            _ => return fault(12),
+        let spans = spans & (ends.least <= after) & (after <= ends.most);
+        let named = (row.names.0 <= record.name()) & (record.name() <= row.names.1);
+        let valued = match row.values {
+            Values::Zero => record.value() == 0,
+            Values::Byte => (0..=255).contains(&record.value()),
+            Values::Any => true,
         };
-        let span = u16::from_le_bytes([s0, s1]);
-        let value = i32::from_le_bytes([v0, v1, v2, v3]);
-        let after = part.at + 1 + usize::from(span);
-        let reaches = match reach {
-            Reach::Within => after <= part.end,
-            Reach::Whole => after == part.end,
-            Reach::Short => after < part.end,
+        if spans & named & valued & (depth <= DEPTH) {
+            return Ok(after);
+        }
+        let number = match (spans, named, valued) {
+            (false, _, _) => 13,
+            (_, false, _) => 14,
+            (_, _, false) => 15,
+            _ => 16,
         };
-        if !reaches || span < row.spans.0 || span > row.spans.1 {
-            return fault(13);
-        }
-        if name < row.names.0 || name > row.names.1 {
-            return fault(14);
-        }
-        if value < row.values.0 || value > row.values.1 {
-            return fault(15);
-        }
-        if part.depth > DEPTH {
-            return fault(16);
-        }
-        Ok(Record { kind, name, value, after })
+        Err(Fault::at(number, at))
     }
 
     /// "The table is a row of procedures .. A procedure has depth 0."
     fn procedures(&mut self) -> Result<(), Fault> {
-        let mut part = Part { at: 0, end: self.records.len(), depth: 0 };
-        while part.at < part.end {
-            let after = self.record(part, Due::Procedure, Reach::Within)?.after;
-            let first = part.at + 1;
-            self.entries.push(first as u16);
-            self.statements(Part { at: first, end: after, depth: 1 }, after)?;
-            part.at = after;
+        let (mut at, end) = (0, self.records.len());
+        while at < end {
+            let record = self.record(at);
+            if record.kind() != 1 {
+                return Err(Fault::kind(at));
+            }
+            let after = Self::check(record, 1, at, Ends::within(end), 0)?;
+            self.entries.push(at as u16 + 1);
+            self.statements(at + 1, after, 1, after)?;
+            at = after;
         }
         Ok(())
     }
 
-    /// A row of statements; `follows` is the place after the last one.
-    fn statements(&mut self, mut part: Part, follows: usize) -> Result<(), Fault> {
-        while part.at < part.end {
-            let record = self.record(part, Due::Statement, Reach::Within)?;
-            let after = record.after;
-            let next = if after < part.end { after } else { follows };
-            self.statement(part, record, next)?;
-            part.at = after;
+    /// A row of statements up to an end, which it gives; `follows` is the place after the last one.
+    fn statements(&mut self, mut at: usize, end: usize, depth: u32, follows: usize) -> Result<usize, Fault> {
+        while at < end {
+            at = self.statement(at, end, depth, follows)?;
         }
-        Ok(())
+        Ok(end)
     }
 
-    /// One statement, with what it encloses and the place that follows it.
-    fn statement(&mut self, part: Part, record: Record, place: usize) -> Result<(), Fault> {
-        let Record { name, value, after, .. } = record;
-        let next = place as u16;
-        let inner = Part { at: part.at + 1, end: after, depth: part.depth + 1 };
-        let node = match record.kind {
-            2 => Node::Skip { next },
-            3 => {
-                self.expression(inner, Reach::Whole)?;
-                if name < VALVES {
-                    Node::Valve { name, next }
-                } else {
-                    Node::Set { name, next }
-                }
-            }
-            4 => return self.test(part, inner, place, place),
-            5 => return self.test(part, inner, place, part.at),
-            6 => {
-                self.expression(inner, Reach::Whole)?;
-                Node::Spawn { name, procedure: value as u8, next }
-            }
-            7 => Node::Suspend { next },
-            _ => Node::Await { name, next },
+    /// One statement, with what it encloses; gives the index after it.
+    #[inline]
+    fn statement(&mut self, at: usize, end: usize, depth: u32, follows: usize) -> Result<usize, Fault> {
+        let record = self.record(at);
+        let check = |kind| {
+            let after = Self::check(record, kind, at, Ends::within(end), depth)?;
+            Ok((after, if after < end { after } else { follows } as u16))
         };
-        self.put(part.at, node);
-        Ok(())
+        match record.kind() {
+            2 => {
+                let (after, next) = check(2)?;
+                self.put(at, Node::Skip { next });
+                Ok(after)
+            }
+            3 => {
+                let (after, next) = check(3)?;
+                self.set(at, after, depth, record.name(), next)
+            }
+            kind @ (4 | 5) => {
+                let (after, next) = check(kind.into())?;
+                self.test(at, after, depth, next, if kind == 4 { next } else { at as u16 })
+            }
+            6 => {
+                let (after, next) = check(6)?;
+                self.spawn(at, after, depth, record, next)
+            }
+            7 => {
+                let (after, next) = check(7)?;
+                self.put(at, Node::Suspend { next });
+                Ok(after)
+            }
+            8 => {
+                let (after, next) = check(8)?;
+                self.put(at, Node::Await { name: record.name(), next });
+                Ok(after)
+            }
+            _ => Err(Fault::kind(at)),
+        }
+    }
+
+    /// A set: of a valve, or of another name.
+    #[inline]
+    fn set(&mut self, at: usize, end: usize, depth: u32, name: u8, next: u16) -> Result<usize, Fault> {
+        self.put(at, if name < VALVES { Node::Valve { name, next } } else { Node::Set { name, next } });
+        self.expression(at + 1, Ends::whole(end), depth + 1)
     }
 
     /// An if or a while: "one expression, then statements". After the body comes `follows`: the while again, or what
     /// follows the if. "A body without statements counts as run through."
-    fn test(&mut self, part: Part, inner: Part, next: usize, follows: usize) -> Result<(), Fault> {
-        let first = self.expression(inner, Reach::Within)?;
-        let yes = if first < inner.end { first } else { follows };
-        self.put(part.at, Node::Test { yes: yes as u16, no: next as u16 });
-        self.statements(Part { at: first, ..inner }, follows)
+    fn test(&mut self, at: usize, end: usize, depth: u32, next: u16, follows: u16) -> Result<usize, Fault> {
+        let first = self.expression(at + 1, Ends::within(end), depth + 1)?;
+        let yes = if first < end { first as u16 } else { follows };
+        self.put(at, Node::Test { yes, no: next });
+        self.statements(first, end, depth + 1, usize::from(follows))
+    }
+
+    /// A spawn: "value is the procedure's number".
+    #[inline]
+    fn spawn(&mut self, at: usize, end: usize, depth: u32, record: Record, next: u16) -> Result<usize, Fault> {
+        let procedure = record.value() as u8;
+        self.highest = self.highest.max(procedure);
+        self.put(at, Node::Spawn { name: record.name(), procedure, next });
+        self.expression(at + 1, Ends::whole(end), depth + 1)
     }
 
     /// An expression, "each record one deeper than the record that encloses it"; gives the index after it.
-    fn expression(&mut self, part: Part, reach: Reach) -> Result<usize, Fault> {
-        let Record { kind, name, value, after } = self.record(part, Due::Expression, reach)?;
-        let inner = Part { at: part.at + 1, end: after, depth: part.depth + 1 };
-        let node = match kind {
-            9 => Node::Constant(value),
-            10 => Node::Read { name },
+    #[inline(always)]
+    fn expression(&mut self, at: usize, ends: Ends, depth: u32) -> Result<usize, Fault> {
+        let record = self.record(at);
+        let check = |kind| Self::check(record, kind, at, ends, depth);
+        match record.kind() {
+            9 => {
+                let after = check(9)?;
+                self.put(at, Node::Constant(record.value()));
+                Ok(after)
+            }
+            10 => {
+                let after = check(10)?;
+                self.put(at, Node::Read { name: record.name() });
+                Ok(after)
+            }
             11 => {
-                let second = self.expression(inner, Reach::Short)?;
-                self.expression(Part { at: second, ..inner }, Reach::Whole)?;
-                Node::TwoOperands { operator: name, second: second as u16 }
+                let after = check(11)?;
+                let second = self.two_operands(at + 1, after, depth + 1)?;
+                self.put(at, Node::TwoOperands { operator: record.name(), second });
+                Ok(after)
             }
-            _ => {
-                self.expression(inner, Reach::Whole)?;
-                Node::OneOperand { operator: name }
+            12 => {
+                let after = check(12)?;
+                self.one_operand(at + 1, after, depth + 1)?;
+                self.put(at, Node::OneOperand { operator: record.name() });
+                Ok(after)
             }
-        };
-        self.put(part.at, node);
-        Ok(after)
+            _ => Err(Fault::kind(at)),
+        }
+    }
+
+    /// What kind 11 encloses, "two expressions"; gives the index of the second.
+    fn two_operands(&mut self, at: usize, end: usize, depth: u32) -> Result<u16, Fault> {
+        let second = self.expression(at, Ends::short(end), depth)?;
+        self.expression(second, Ends::whole(end), depth)?;
+        Ok(second as u16)
+    }
+
+    /// What kind 12 encloses, "one expression".
+    fn one_operand(&mut self, at: usize, end: usize, depth: u32) -> Result<(), Fault> {
+        self.expression(at, Ends::whole(end), depth)?;
+        Ok(())
+    }
+
+    /// "A spawn names no procedure of the table": looked for, at the earliest, only where the highest named is none.
+    fn spawns(&self) -> Result<(), Fault> {
+        let count = self.entries.len();
+        if usize::from(self.highest) < count {
+            return Ok(());
+        }
+        let unknown = |node: &Node| matches!(node, Node::Spawn { procedure, .. } if usize::from(*procedure) >= count);
+        match self.nodes.iter().position(unknown) {
+            Some(place) => Err(Fault::at(17, place)),
+            None => Ok(()),
+        }
     }
 }

@@ -14,11 +14,19 @@ pub struct Context<'a> {
 }
 
 impl Context<'_> {
-    /// The value of the expression at an index, by recursion over its operands.
+    /// The value of the expression at an index. A constant and a read are worked out in place, without a call.
+    #[inline]
     pub fn value(&self, at: usize) -> i32 {
         match self.nodes.get(at) {
             Some(&Node::Constant(value)) => value,
             Some(&Node::Read { name }) => self.read(name),
+            _ => self.operation(at),
+        }
+    }
+
+    /// The value of an operator, by recursion over its operands.
+    fn operation(&self, at: usize) -> i32 {
+        match self.nodes.get(at) {
             Some(&Node::TwoOperands { operator, second }) => {
                 let a = self.value(at + 1);
                 let b = self.value(usize::from(second));

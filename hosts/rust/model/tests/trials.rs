@@ -216,3 +216,41 @@ fn the_awaited_variable_is_read_at_each_try() {
     assert_eq!((number, steps), (0, 13));
     assert_eq!(lines.iter().filter(|line| line.0 == 5).collect::<Vec<_>>(), [&(5, 1, 0, 0)]);
 }
+
+/// Calls with a budget and a log, until so many steps are made: the last state and the logs joined.
+fn slices(rows: &[Row], steps: u32, budget: u32, log: usize) -> (Vec<u8>, Vec<u8>) {
+    let table = table(rows);
+    let (mut state, mut joined, mut left) = (fresh(&table), Vec::new(), steps);
+    while left > 0 {
+        let mut log = vec![0; log];
+        let answer = run(&table, &mut state, budget.min(left), &mut log);
+        joined.extend(&log[..8 * answer.records as usize]);
+        left -= answer.steps;
+    }
+    (state, joined)
+}
+
+#[test]
+fn a_run_may_stop_between_turns() {
+    // Three tasks wait for main, which suspends for ever.
+    let rows = [
+        (1, 0, 9, 0),
+        (6, 8, 1, 1),
+        (9, 0, 0, 1),
+        (6, 8, 1, 1),
+        (9, 0, 0, 1),
+        (6, 8, 1, 1),
+        (9, 0, 0, 1),
+        (5, 0, 2, 0),
+        (9, 0, 0, 1),
+        (7, 0, 0, 0),
+        (1, 0, 1, 0),
+        (8, 64, 0, 0),
+    ];
+    let whole = slices(&rows, 60, 60, 480);
+    for budget in 1..8 {
+        for log in [8, 16, 31, 480] {
+            assert_eq!(slices(&rows, 60, budget, log), whole, "budget {budget}, log {log}");
+        }
+    }
+}
