@@ -35,9 +35,10 @@ after-shorter p = omega (arith, length-after p)
 
 -- neither a constant nor a variable
 abbrev pub Operator : List ℕ → Type 0
-Operator p = ¬ (kindOf p ≡ 9) × ¬ (kindOf p ≡ 10)
+Operator p = 11 ≤ kindOf p
 
 pub record Holds (p : List ℕ) : Type 0 where
+  pub leaf-is : kindOf p < 11 → ¬ (kindOf p ≡ 9) → kindOf p ≡ 10
   pub constant-is : kindOf p ≡ 9 → exprOf p ≡ constant (valueOf p)
   pub variable-named : kindOf p ≡ 10 → nameOf p ≤ 64
   pub variable-is : kindOf p ≡ 10 → exprOf p ≡ variable (nameOf p)
@@ -50,28 +51,31 @@ holds-encode : (e : Expr) (r : List ℕ) → NamedE e → Holds (encodeE e ++ r)
 unfolding encodeE NamedE
 holds-encode (constant z) r w =
     record {
+      leaf-is = λ h g. absurd (g refl);
       constant-is = λ h. expr-of (constant z) r w ∙ ap constant (sym (value-row 9 0 0 z r w));
       variable-named = λ h. absurd (omega arith);
       variable-is = λ h. absurd (omega arith);
-      first = λ h. absurd (h .0 refl);
+      first = λ h. absurd (omega arith);
       one-is = λ h. absurd (omega arith);
-      second = λ h g. absurd (h .0 refl);
-      two-is = λ h g. absurd (h .0 refl);
+      second = λ h g. absurd (omega arith);
+      two-is = λ h g. absurd (omega arith);
     }
 holds-encode (variable n) r w =
     record {
+      leaf-is = λ h g. refl;
       constant-is = λ h. absurd (omega arith);
       variable-named = λ h. w;
       variable-is = λ h. expr-of (variable n) r w;
-      first = λ h. absurd (h .1 refl);
+      first = λ h. absurd (omega arith);
       one-is = λ h. absurd (omega arith);
-      second = λ h g. absurd (h .1 refl);
-      two-is = λ h g. absurd (h .1 refl);
+      second = λ h g. absurd (omega arith);
+      two-is = λ h g. absurd (omega arith);
     }
 holds-encode (two o a b) r w =
     let x = parts-two o a b r .inner-is in
     let y = ap after x ∙ after-encodeE a (encodeE b) ∙ sym (append-nil (encodeE b)) in
     record {
+      leaf-is = λ h g. absurd (omega arith);
       constant-is = λ h. absurd (omega arith);
       variable-named = λ h. absurd (omega arith);
       variable-is = λ h. absurd (omega arith);
@@ -83,6 +87,7 @@ holds-encode (two o a b) r w =
 holds-encode (one o a) r w =
     let x = parts-one o a r .inner-is ∙ sym (append-nil (encodeE a)) in
     record {
+      leaf-is = λ h g. absurd (omega arith);
       constant-is = λ h. absurd (omega arith);
       variable-named = λ h. absurd (omega arith);
       variable-is = λ h. absurd (omega arith);

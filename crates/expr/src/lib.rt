@@ -6,9 +6,9 @@ use values::apply1;
 use values::apply2;
 use values::signed;
 ghost use mathlib.Core.Path.{_≡_};
-ghost use Prim.Native.Nat.{_≤_};
+ghost use Prim.Native.Nat.{_≤_, _<_};
 ghost use Rattle.rules.specs.Recipe.{read, value};
-ghost use Rattle.rules.specs.Table.{exprOf};
+ghost use Rattle.rules.specs.Table.{kindOf, exprOf};
 ghost use Rattle.expr.specs.Spelt.{Spelt};
 
 // A variable's value; name 64 is the task's own parameter.
@@ -23,24 +23,43 @@ pub fn variable(name: u8, variables: &[i32; 64], parameter: i32) -> i32
     variables[i]
 }
 
-// The value of the expression that a part starts with.
+// The value of a constant or of a variable.
+fn leaf(part: &[u8], variables: &[i32; 64], parameter: i32) -> i32
+    requires { ⌜ Spelt (now part) × (kindOf (now part) < 11) ⌝ }
+    ensures { λ r. ⌜ r ≡ value (record { variables = now (variables .entry); parameter = parameter }) (exprOf (now (part .entry))) ⌝ }
+{
+    if part[0] == 9 {
+        return signed(word_of(part));
+    }
+    variable(part[1], variables, parameter)
+}
+
+// The value of the expression that a part starts with, by recursion over its operands.
 pub fn eval(part: &[u8], variables: &[i32; 64], parameter: i32) -> i32
     requires { ⌜ Spelt (now part) ⌝ }
     ensures { λ r. ⌜ r ≡ value (record { variables = now (variables .entry); parameter = parameter }) (exprOf (now (part .entry))) ⌝ }
 {
     let kind = part[0];
     let name = part[1];
-    if kind == 9 {
-        return signed(word_of(part));
-    }
-    if kind == 10 {
-        return variable(name, variables, parameter);
+    if kind < 11 {
+        return leaf(part, variables, parameter);
     }
     let inner = enclosed(part);
-    let a = eval(inner, variables, parameter);
+    let a = operand(inner, variables, parameter);
     if kind == 12 {
         return apply1(name, a);
     }
-    let b = eval(beyond(inner), variables, parameter);
+    let b = operand(beyond(inner), variables, parameter);
     apply2(name, a, b)
+}
+
+// An operand: a constant or a variable is worked out in place, without a step of the recursion.
+fn operand(part: &[u8], variables: &[i32; 64], parameter: i32) -> i32
+    requires { ⌜ Spelt (now part) ⌝ }
+    ensures { λ r. ⌜ r ≡ value (record { variables = now (variables .entry); parameter = parameter }) (exprOf (now (part .entry))) ⌝ }
+{
+    if part[0] < 11 {
+        return leaf(part, variables, parameter);
+    }
+    eval(part, variables, parameter)
 }
