@@ -65,8 +65,8 @@ fn onward(table: &[u8], next: &[u16; 4096], queue: &[u64; 32], front: usize) -> 
     t
 }
 
-// All steps of a call. Each arm assigns the new state to the variable that held the old one, so that nothing of it is copied; a turn alone
-// copies the queue.
+// All steps of a call. Each arm assigns the new state to the variable that held the old one: joined in a function of their own, the arms
+// would copy all of it.
 pub fn drive(
     table: &[u8],
     next: &[u16; 4096],

@@ -58,7 +58,8 @@ fn stored(queue: [u64; 32], at: usize, task: u64) -> [u64; 32]
     q
 }
 
-// Each method builds the new state as a literal: assigned to the variable that held the old one, it costs only what it changes.
+// Each method builds the new state as a literal: assigned to the variable that held the old one, it copies the queue where a task is stored
+// in it, and nothing else.
 impl State {
     // The active task joins the back.
     pub fn put_back(self) -> State

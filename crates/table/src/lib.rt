@@ -1,3 +1,3 @@
-// Recipe tables: the records of a table part, the check of a whole table, and where each statement leads.
+// Recipe tables: the records of a table part, and the check of a whole table.
 pub mod check;
 pub mod record;
