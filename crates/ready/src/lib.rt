@@ -53,7 +53,7 @@ fn natural(v: i32) -> u32
 }
 
 // Whether a value is the number of a task that is over.
-pub fn is_done(queue: &[u64; 32], front: usize, queued: usize, issued: u16, v: i32) -> bool
+fn is_done(queue: &[u64; 32], front: usize, queued: usize, issued: u16, v: i32) -> bool
     requires { ⌜ (front < 32) × (queued ≤ 32) ⌝ }
     ensures { λ r. ⌜ ((x : Recipe) → r ≡ isDone issued (isLive (recipes x) (queueOf (now (queue .entry)) front queued)) v) ⌝ }
 {
@@ -108,7 +108,7 @@ fn wait_of(
 }
 
 // The queued task i from the front; the number `known` is not done.
-pub fn queued_at(
+fn queued_at(
     table: &[u8],
     queue: &[u64; 32],
     front: usize,

@@ -50,7 +50,7 @@ pub fn put_ending(b: &mut [u8], at: usize, number: u32) -> usize
     }
 }
 
-pub fn put_digit(b: &mut [u8], at: usize, d: u32) -> usize
+fn put_digit(b: &mut [u8], at: usize, d: u32) -> usize
     requires { ⌜ (d < 10) × (at < length (now b)) ⌝ }
     ensures { λ r. ⌜ Puts (now (b .entry)) at ((48 + d) ∷ []) r (now (b .exit)) ⌝ }
 {
@@ -59,7 +59,7 @@ pub fn put_digit(b: &mut [u8], at: usize, d: u32) -> usize
 }
 
 // The digits before the last, then the last.
-pub fn put_decimal(b: &mut [u8], at: usize, n: u32) -> usize
+fn put_decimal(b: &mut [u8], at: usize, n: u32) -> usize
     requires { ⌜ at + length (decimal n) ≤ length (now b) ⌝ }
     ensures { λ r. ⌜ Puts (now (b .entry)) at (decimal n) r (now (b .exit)) ⌝ }
 {
