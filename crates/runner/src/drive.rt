@@ -24,6 +24,7 @@ pub struct Ran {
     pub state: State,
 }
 
+// A call that stops so.
 fn stopped(stop: Stop, count: Count, state: State) -> Ran
     ensures { λ r. ⌜ r ≡ record { stop = stop; count = count; state = state } ⌝ }
 {
@@ -34,6 +35,7 @@ fn stopped(stop: Stop, count: Count, state: State) -> Ran
     }
 }
 
+// What the steps up to the next change of the queue go by.
 fn bounds_of(queued: usize, issued: u16, budget: u32) -> Bounds
     ensures { λ r. ⌜ r ≡ record { queued = queued; issued = issued; budget = budget } ⌝ }
 {
@@ -100,6 +102,7 @@ pub fn drive(
                 Move::Ends => {
                     s = s.end();
                 }
+                // It gave way or waits: a move that leaves the queue alone does not come here.
                 _ => {
                     s = s.put_back();
                 }

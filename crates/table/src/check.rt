@@ -188,7 +188,8 @@ fn fields_fault(
     if value_right(k, value) { 0 } else { 15 }
 }
 
-// The number of the first rule that the first record of a part breaks, 12 to 15, or 0: where an expression is due,
+// The number of the first rule that the first record of a part breaks, 12 to 15, or 0. Two functions with one caller each, so that both are
+// inlined: where an expression is due,
 fn expression_fault(part: &[u8], ends: Ends) -> u8
     requires { ⌜ 8 ≤ length (now part) ⌝ }
     ensures { λ r. ⌜ r ≡ recordFault expression (endsOf ends) (now (part .entry)) ⌝ }
