@@ -4,8 +4,8 @@
  * Two calls. recipe_start checks a recipe's table and writes a fresh state;
  * recipe_run takes steps from a state and writes what happened into a log.
  * Tasks are scheduled round robin from one ready queue: a task runs until it
- * yields (suspend), waits (await) or ends. Valves, clocks and sensors are the
- * host's business.
+ * yields (suspend), waits (await, guard) or ends. Valves, clocks and sensors
+ * are the host's business.
  *
  * Buffers
  *   Each buffer is a pointer and a length in bytes, lent for the call only.
@@ -54,7 +54,8 @@ enum recipe_number {
     /* recipe_run: endings. State and log are as after the steps counted. */
     RECIPE_FINISHED = 0, /* no task is left */
     RECIPE_PAUSED = 1,   /* the budget is used up: run again to go on */
-    RECIPE_STUCK = 2,    /* every task waits and none can go on */
+    RECIPE_STUCK = 2,    /* every task waits for a number that is not done or
+                            for an untrue guard */
     RECIPE_TASKS = 3,    /* next is a spawn and 32 tasks are live */
     RECIPE_SPENT = 4,    /* next is a spawn and number 65,535 is issued */
     RECIPE_LOGFULL = 5,  /* the next step's record has no room: run again */
@@ -80,9 +81,10 @@ enum recipe_log_kind {
     RECIPE_LOG_SPAWNED = 1, /* value: the new task's number */
     RECIPE_LOG_TAKEN = 2,   /* became active from the ready queue's front */
     RECIPE_LOG_GAVE = 3,    /* yielded by suspend */
-    RECIPE_LOG_WAITS = 4,   /* reached an await; value: the number awaited */
+    RECIPE_LOG_WAITS = 4,   /* reached an await; value: the number awaited; or
+                               a guard; value: 0 */
     RECIPE_LOG_TURNED = 5,  /* still waits, turned to the ready queue's back;
-                               value: the number awaited */
+                               value: the number awaited, 0 at a guard */
     RECIPE_LOG_ENDED = 6,
     RECIPE_LOG_VALVE = 7    /* set a valve; value: what was set */
 };
@@ -142,6 +144,11 @@ struct recipe_started recipe_start(const uint8_t *table, size_t table_len,
  * stopped: the calls together do what one with a longer budget and log does.
  * A log of at least one record gets on each time. After the other endings a
  * further call with the same state takes no step.
+ *
+ * A host brings a sensor's reading in by writing its variable between calls:
+ * variable n, 0 to 63, is the 4 bytes of the state from 264 + 4 * n on, of any
+ * content. A guard is tested anew at each try: a task at one goes on when it is
+ * tried with the reading that it waits for, after RECIPE_STUCK too.
  *
  * Before each step the endings are tried in the order finished, stuck, paused,
  * tasks, spent, logfull. Refusals: the table's, then the state's.

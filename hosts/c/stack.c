@@ -26,7 +26,7 @@ enum {
 /* The table's kinds that are used here. */
 enum kind {
     PROCEDURE = 1, SKIP = 2, SET = 3, IF = 4, WHILE = 5, SPAWN = 6,
-    CONSTANT = 9, TWO_OPERANDS = 11, ONE_OPERAND = 12
+    CONSTANT = 9, TWO_OPERANDS = 11, ONE_OPERAND = 12, GUARD = 13
 };
 
 /* Which operand of an expression holds the next one. */
@@ -102,7 +102,8 @@ static void append_expression(int depth, int deepest, enum lean lean)
 
 /* Ifs and whiles in one another, a statement at depth `last` in the innermost;
    every expression goes down to `deepest`. */
-static void append_nest(int depth, int last, int deepest, enum lean lean)
+static void append_nest(enum kind innermost, int depth, int last, int deepest,
+                        enum lean lean)
 {
     size_t at;
 
@@ -110,10 +111,10 @@ static void append_nest(int depth, int last, int deepest, enum lean lean)
         append(SKIP, 0, 0);
         return;
     }
-    at = append(depth == last ? SET : depth % 2 == 0 ? IF : WHILE, 0, 0);
+    at = append(depth == last ? innermost : depth % 2 == 0 ? IF : WHILE, 0, 0);
     append_expression(depth + 1, deepest, lean);
     if (depth < last)
-        append_nest(depth + 1, last, deepest, lean);
+        append_nest(innermost, depth + 1, last, deepest, lean);
     enclose(at);
 }
 
@@ -196,17 +197,19 @@ static void report(const char *shape)
     records = 0;
 }
 
-static void report_nest(int last, int deepest, enum lean lean)
+static void report_nest(enum kind innermost, int last, int deepest,
+                        enum lean lean)
 {
     static const char *const operand[] = {"sole", "first", "second"};
     char shape[64];
     size_t main_procedure = append(PROCEDURE, 0, 0);
 
-    append_nest(1, last, deepest, lean);
+    append_nest(innermost, 1, last, deepest, lean);
     enclose(main_procedure);
     fill_with_procedures();
-    snprintf(shape, sizeof shape, "statements to %d, all to %d, %s", last,
-             deepest, operand[lean]);
+    snprintf(shape, sizeof shape, "%s to %d, all to %d, %s",
+             innermost == GUARD ? "guard" : "statements", last, deepest,
+             operand[lean]);
     report(shape);
 }
 
@@ -216,10 +219,12 @@ static void report_nests(void)
 
     for (lean = SOLE; lean <= SECOND; lean++) {
         for (last = 1; last <= MOST_DEPTH; last++)
-            report_nest(last, MOST_DEPTH, (enum lean)lean);
-        report_nest(1, MOST_DEPTH + 1, (enum lean)lean);
-        report_nest(MOST_DEPTH + 1, MOST_DEPTH + 1, (enum lean)lean);
-        report_nest(1, RECORDS / 3, (enum lean)lean);
+            report_nest(SET, last, MOST_DEPTH, (enum lean)lean);
+        report_nest(SET, 1, MOST_DEPTH + 1, (enum lean)lean);
+        report_nest(SET, MOST_DEPTH + 1, MOST_DEPTH + 1, (enum lean)lean);
+        report_nest(SET, 1, RECORDS / 3, (enum lean)lean);
+        report_nest(GUARD, 1, MOST_DEPTH, (enum lean)lean);
+        report_nest(GUARD, MOST_DEPTH - 1, MOST_DEPTH, (enum lean)lean);
     }
 }
 
@@ -295,6 +300,7 @@ int main(void)
     report_row(SKIP, "a row of skips");
     report_row(SET, "a row of sets");
     report_row(IF, "a row of ifs without a body");
+    report_row(GUARD, "a row of guards");
     report_too_deep();
     report_spawns();
 

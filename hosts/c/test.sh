@@ -83,6 +83,20 @@ exit 0" "$(said "$work/a")"
 stuck 1
 exit 3" "$(said "$work/c")"
 
+    table "$work/guard" 1,0,6,0 6,8,1,1 9,0,0,3 13,0,3,0 11,4,2,0 9,0,0,2 \
+        10,9,0,0 1,0,3,0 7,0,0,0 3,9,1,0 10,64,0,0
+    check "a guard is turned, then passed" "spawned 1 0 2
+waits 1 0 0
+taken 2 0 0
+gave 2 0 0
+turned 1 0 0
+taken 2 0 0
+ended 2 0 0
+taken 1 0 0
+ended 1 0 0
+finished 10
+exit 0" "$(said "$work/guard")"
+
     table "$work/low" 1,0,2,0 3,0,1,0 9,0,0,-2147483648
     check "a value below 0" "valve 1 0 -2147483648
 ended 1 0 0
@@ -170,6 +184,20 @@ paused" "$(words "$work/parts")"
 exit 0" "$(said -s "$work/parts.state" "$work/long_run")"
 }
 
+# A guard over variable 8, which is at byte 264 + 4 * 8 of the state.
+test_sensor() {
+    table "$work/sensor" 1,0,4,0 13,0,1,0 10,8,0,0 3,0,1,0 10,8,0,0
+    check "an untrue guard is stuck" "waits 1 0 0
+stuck 1
+exit 3" "$(said -s "$work/sensor.state" "$work/sensor")"
+    byte 7 | dd of="$work/sensor.state" bs=1 seek=296 conv=notrunc 2>/dev/null
+    check "a reading written between calls" "taken 1 0 0
+valve 1 0 7
+ended 1 0 0
+finished 3
+exit 0" "$(said -s "$work/sensor.state" "$work/sensor")"
+}
+
 test_trouble() {
     check "no table named" "exit 2" "$(said)"
     check "two tables named" "exit 2" "$(said "$work/a" "$work/a")"
@@ -185,5 +213,6 @@ test_rows
 test_refused_table
 test_refused_state
 test_resume
+test_sensor
 test_trouble
 exit $failed

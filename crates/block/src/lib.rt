@@ -82,7 +82,11 @@ fn is_place(table: &[u8], i: usize) -> bool
     if i == records {
         return true;
     }
-    wide(table[8 * i]) <= 8
+    let kind = wide(table[8 * i]);
+    if kind <= 8 {
+        return true;
+    }
+    kind == 13
 }
 
 // Record i, of a task.

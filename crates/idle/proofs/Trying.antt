@@ -19,13 +19,13 @@ use Rattle.rules.specs.Places.{at}
 use Rattle.rules.specs.State as R
 use Rattle.rules.specs.Log as L
 use Rattle.rules.specs.Log.{eventRow}
-use Rattle.rules.specs.Scheduler.{Readiness, waits-for, isReady, canGo, goes, next, Ending, finished, paused, stuck, logfull, stops, test, Run}
+use Rattle.rules.specs.Scheduler.{Readiness, isReady, Rules, canGo, goes, tryOf, next, Ending, finished, paused, stuck, logfull, stops, test, Run}
 use Rattle.rules.specs.Steps.{recipes, pastAt}
 use Rattle.rules.proofs.Lists.{every-map, getD-tab}
 use Rattle.rules.proofs.Fit.{TaskFit}
 use Rattle.state.specs.View.{entry, queueOf, turn}
 use Rattle.ready.specs.declared.Wait.{Wait}
-use Rattle.ready.specs.declared.Wait.the-variants.{Ready, Waits}
+use Rattle.ready.specs.declared.Wait.the-variants.{Ready, Waits, AtGuard}
 use Rattle.ready.specs.Ready.{readinessOf, idle, readyIn, aheadIn, Placed, Waiting}
 use Rattle.ready.proofs.Queue.{every-at}
 use Rattle.count.specs.declared.Count.{Count}
@@ -33,11 +33,11 @@ use Rattle.count.specs.declared.Stop.{Stop}
 use Rattle.count.specs.declared.Stop.the-variants.{Finished, Stuck}
 use Rattle.count.specs.Along.{stopOf, endingOf, Along, Decides, Told}
 use Rattle.moves.specs.Moves.{storeWith}
-use Rattle.idle.specs.Idle.{awaitedOf, Idling, tookUp, Tries}
+use Rattle.idle.specs.Idle.{carriedBy, Idling, tookUp, Tries}
 use Rattle.count.proofs.Stops.{none-more, not-more, stop-not-more}
 use Rattle.count.proofs.Along.{room-left, made, told, one-more, written-fits}
 use Rattle.state.proofs.Views.{queue-length}
-use Rattle.idle.proofs.Turning.{Front, front, ahead-waits, next-none, next-stuck, next-turned, next-taken, next-tried}
+use Rattle.idle.proofs.Turning.{Turns, Front, front, ahead-waits, next-none, next-stuck, next-turned, next-taken, next-tried}
 
 -- ---- the least of three
 
@@ -67,9 +67,10 @@ chosen ahead left room j k e g =
 
 -- ---- readiness, as the code has it
 
-waits-of : (w : Wait) (v : Readiness) → readinessOf w ≡ v → isReady v ≡ false → v ≡ waits-for (awaitedOf w)
-waits-of Ready v e h = absurd (true≢false (ap isReady e ∙ h))
-waits-of (Waits z) v e h = sym e
+turns-of : (R : Rules) (w : Wait) (v : Readiness) → readinessOf w ≡ v → isReady v ≡ false → Turns R v (carriedBy w)
+turns-of R Ready v e h c t q = absurd (true≢false (ap isReady e ∙ h))
+turns-of R (Waits z) v e h c t q = ap (λ (x : Readiness). tryOf R x c t q) (sym e)
+turns-of R AtGuard v e h c t q = ap (λ (x : Readiness). tryOf R x c t q) (sym e)
 
 pub queue-at : (q : List ℕ) (f n i : ℕ) (d : R.Task ℕ) → i < n → getD (queueOf q f n) i d ≡ entry q f i
 unfolding queueOf
@@ -171,21 +172,21 @@ module _ (table : List ℕ) (w : Within (recipeOf table)) (issued : ℕ) (variab
   -- one turn
   next-turn : (n : ℕ) → n < aheadIn table c → aheadIn table c < queued → (t : R.Task ℕ) (v : Wait) → t ≡ entry queue front₀ n
       → readinessOf v ≡ readyIn table c (entry queue front₀ n)
-      → next (recipes r) (turn n c) ≡ goes (some (L.turned (t .number) (awaitedOf v))) (turn (suc n) c)
+      → next (recipes r) (turn n c) ≡ goes (some (L.turned (t .number) (carriedBy v))) (turn (suc n) c)
   next-turn n h l t v e g =
       let i : n < queued = omega arith in
       let f = first queue front₀ queued n i in
       let s : aheadIn table c < length q = rw many l in
       let not-yet : canGo (recipes r) c (entry queue front₀ n) ≡ false = ap (canGo (recipes r) c) (sym (queue-at queue front₀ queued n t i)) ∙ ahead-waits (canGo (recipes r) c) q n t h in
-      let waits = waits-of v (readyIn table c (entry queue front₀ n)) g not-yet in
-      next-turned (recipes r) (c .store) q n f s (awaitedOf v) (ap (readyIn table c) (first-entry queue front₀ queued n i) ∙ waits)
+      let turns = turns-of (recipes r) v (readyIn table c (entry queue front₀ n)) g not-yet in
+      next-turned (recipes r) (c .store) q n f s (carriedBy v) (subst⁻¹ (λ (u : R.Task ℕ). Turns (recipes r) (readyIn table c u) (carriedBy v)) (first-entry queue front₀ queued n i) turns)
       ∙ rw (first-entry queue front₀ queued n i, e) refl
 
   pub turned-more : {budget : ℕ} {before : Count} {log₀ log : List ℕ} {i : ℕ} (k : ℕ) (log′ : List ℕ) (t : R.Task ℕ) (v : Wait)
       → Turned table issued variables queue front₀ queued budget before log₀ log i → i < k → k ≤ aheadIn table c → aheadIn table c < queued
       → before .steps + k ≤ budget → before .written + 8 * k ≤ length log₀
       → t ≡ entry queue front₀ i → readinessOf v ≡ readyIn table c (entry queue front₀ i)
-      → log′ ≡ sets log (before .written + 8 * i) (eventRow (L.turned (t .number) (awaitedOf v))) → length log′ ≡ length log
+      → log′ ≡ sets log (before .written + 8 * i) (eventRow (L.turned (t .number) (carriedBy v))) → length log′ ≡ length log
       → Turned table issued variables queue front₀ queued budget before log₀ log′ (i + 1)
   turned-more {budget} {before} {log₀} {log} {i} k log′ t v s h m l in-b in-l e g is keeps =
       let n : Count = record { steps = before .steps + i; written = before .written + 8 * i } in
@@ -195,7 +196,7 @@ module _ (table : List ℕ) (w : Within (recipeOf table)) (issued : ℕ) (variab
         along = λ n′ p p′ u given a.
             let a′ = s .along n refl refl u given a in
             let room : 1 ≤ (length log - n .written) / 8 = omega (arith, s .same-length) in
-            rw one (made a′ (some (L.turned (t .number) (awaitedOf v))) w x (omega arith) (rw (← room-left a′) room) (omega arith) (omega arith) is);
+            rw one (made a′ (some (L.turned (t .number) (carriedBy v))) w x (omega arith) (rw (← room-left a′) room) (omega arith) (omega arith) is);
         same-length = keeps ∙ s .same-length;
       }
 

@@ -9,13 +9,17 @@ use native.Mathlib.Omega.{arith}
 use lib.Dec.{ltb}
 use lib.IntN.{ℤ}
 use lib.ListN.{length, getD, length-append, List·getD-append}
-use Rattle.rules.specs.Scheduler.{Readiness, ready, waits-for, Rules, count, isLive, Config, readiness, canGo, anyGo, finish, jam, goes, tryOf, next}
+use Rattle.rules.specs.Scheduler.{Readiness, ready, waits-for, at-guard, Rules, count, isLive, Config, readiness, canGo, anyGo, finish, jam, goes, tryOf, turnOf, next}
 use Rattle.rules.proofs.Scheduling.Lawful.{ready-when}
 use Rattle.rules.proofs.Scheduling.Bound.{count-append}
 use Rattle.rules.proofs.Scheduling.Induction.{idleC, busyC}
 use Rattle.state.specs.View.{turned}
 use Rattle.state.proofs.Ring.{turned-more}
 use Rattle.ready.specs.Ready.{ahead}
+
+-- the try of a task that waits so is a turn, whose record carries z
+abbrev pub Turns : (R : Rules) → Readiness → ℤ → Type 0
+Turns R v z = (c : Config R) (t : R .Task) (q : List (R .Task)) → tryOf R v c t q ≡ turnOf R z c t q
 
 -- the queue after n turns: task n of it comes first
 pub record Front {T : Type 0} (n : ℕ) (q : List T) : Type 0 where
@@ -159,9 +163,9 @@ module _ (R : Rules) where
               → next R (idleC R s p) ≡ tryOf R (readiness R (idleC R s q) (f .first)) (idleC R s p) (f .first) (f .rest)
           by p e any same = rw e (rw (rw e at any, rw e at same) refl)
 
-      pub next-turned : (z : ℤ) → readiness R (idleC R s q) (f .first) ≡ waits-for z
+      pub next-turned : (z : ℤ) → Turns R (readiness R (idleC R s q) (f .first)) z
           → next R (idleC R s (turned n q)) ≡ goes (some (R .turn (f .first) z)) (idleC R s (turned (suc n) q))
-      next-turned z e = tries-front ∙ rw (e, turned-more n q, f .is) refl
+      next-turned z e = tries-front ∙ e (idleC R s (turned n q)) (f .first) (f .rest) ∙ rw (turned-more n q, f .is) refl
 
       pub next-taken : n ≡ ahead go q → (d : R .Task)
           → next R (idleC R s (turned n q)) ≡ goes (some (R .took (f .first))) (busyC R s (R .up (f .first)) (f .rest))
@@ -176,3 +180,4 @@ module _ (R : Rules) where
           by : (v : Readiness) → next R (idleC R s (turned n q)) ≡ tryOf R v (idleC R s (turned n q)) (f .first) (f .rest) → (e : R .Event) × (c : Config R) × (next R (idleC R s (turned n q)) ≡ goes (some e) c)
           by ready h = (_, _, h)
           by (waits-for z) h = (_, _, h)
+          by at-guard h = (_, _, h)

@@ -25,7 +25,7 @@ ghost use Rattle.rules.specs.Steps.{recipes};
 ghost use Rattle.state.specs.View.{entry, turn};
 ghost use Rattle.ready.specs.Ready.{idle};
 ghost use Rattle.count.specs.Along.{endingOf, Along, Decides};
-ghost use Rattle.idle.specs.Idle.{awaitedOf, Turning, Idling, Tries};
+ghost use Rattle.idle.specs.Idle.{carriedBy, Turning, Idling, Tries};
 
 // Why no task was taken up, or that one was; and how many were turned before it.
 pub struct Tried {
@@ -34,13 +34,14 @@ pub struct Tried {
     pub turns: usize,
 }
 
-// The number that a task waits for.
-fn awaited(wait: Wait) -> i32
-    ensures { λ r. ⌜ r ≡ awaitedOf wait ⌝ }
+// What the log record of a task's turn carries: the number that it waits for, and 0 where there is none.
+fn carried(wait: Wait) -> i32
+    ensures { λ r. ⌜ r ≡ carriedBy wait ⌝ }
 {
     match wait {
         Wait::Ready => 0,
         Wait::Waits(z) => z,
+        Wait::AtGuard => 0,
     }
 }
 
@@ -78,7 +79,7 @@ fn turn_first(
         put_event(
             log,
             before.written + 8 * i,
-            Event::Turned(t.number, awaited(wait)),
+            Event::Turned(t.number, carried(wait)),
         );
         i += 1;
     }

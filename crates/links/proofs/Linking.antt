@@ -6,7 +6,7 @@ use mathlib.Core.List.{List, [], _∷_, _++_}
 use native.Mathlib.Omega.{arith}
 use lib.ListN.{length, set, replicate, length-append, length-replicate}
 use borrow.Author.Tests.{eq-eqb, ne-eqb}
-use Rattle.rules.specs.Recipe.{Expr, Stmt, skip, assign, if, while, spawn, suspend, await, Body, fin, _▸_, sizeE, sizeS, sizeB, encodeE, encodeS, encodeB, levelsS, levelsB, NamedS, NamedB}
+use Rattle.rules.specs.Recipe.{Expr, Stmt, skip, assign, if, while, spawn, suspend, await, guard, Body, fin, _▸_, sizeE, sizeS, sizeB, encodeE, encodeS, encodeB, levelsS, levelsB, NamedS, NamedB}
 use Rattle.rules.specs.Table.{kindOf, spanOf, inner, after, readB, bodyOf}
 use Rattle.rules.specs.Places.{Point, nowhere, enter, pointsS, pointsB}
 use Rattle.rules.proofs.Grammar.Rows.{span-encodeE, span-encodeS, stmt-pos, length-encodeE, length-encodeB, innerS, parts-stmt, after-encodeE}
@@ -101,6 +101,7 @@ linked-plain (while e b) r i k xs f g = absurd (g refl)
 linked-plain (spawn v p e) r i k xs f g = linked-none (sizeE e) (i + 1) (set xs i k)
 linked-plain suspend r i k xs f g = refl
 linked-plain (await v) r i k xs f g = refl
+linked-plain (guard e) r i k xs f g = linked-none (sizeE e) (i + 1) (set xs i k)
 
 abbrev Plain : ℕ → List ℕ → Type 0
 Plain at p = ¬ (kindOf p ≡ 4) → ¬ (kindOf p ≡ 5) → (k : ℕ) (xs : List ℕ) → set xs at k ≡ linked (pointsS (firstOf (bodyOf p)) at k) at xs
@@ -152,6 +153,7 @@ test-of at left (while e d) b n w l c f g = test-with at left (while e d) b n e 
 test-of at left (spawn v p e) b n w l c f g = absurd (g (omega arith))
 test-of at left suspend b n w l c f g = absurd (g (omega arith))
 test-of at left (await v) b n w l c f g = absurd (g (omega arith))
+test-of at left (guard e) b n w l c f g = absurd (g (omega arith))
 
 pub test : {at left : ℕ} {p : List ℕ} → BodySpelt at left p → 0 < length p → Tests at left p
 test {at} {left} r h = by-first (Tests at left) (test-of at left) r h

@@ -9,7 +9,7 @@ use lib.ListN.{length, set}
 use Rattle.rules.specs.Recipe.{Stmt, skip, Body, fin, _▸_, Recipe, sizeB, encodeB, levelsB, NamedB}
 use Rattle.rules.specs.Table.{spanOf}
 use Rattle.rules.specs.Standing.{nextOf}
-use Rattle.rules.specs.Places.{Point, nowhere, stop, skips, assigns, tests, spawns, suspends, awaits}
+use Rattle.rules.specs.Places.{Point, nowhere, stop, skips, assigns, tests, spawns, suspends, awaits, guards}
 
 -- whether a statement stands there
 abbrev pub isStatement : Point ℕ → Bool
@@ -21,6 +21,7 @@ isStatement (tests e k l) = true
 isStatement (spawns n p e k) = true
 isStatement (suspends k) = true
 isStatement (awaits n k) = true
+isStatement (guards e k) = true
 
 -- the list with where each statement leads written at the statement's index, the points standing at i, i + 1, ..
 unfoldable pub linked : List (Point ℕ) → ℕ → List ℕ → List ℕ

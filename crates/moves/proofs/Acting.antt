@@ -12,6 +12,7 @@ use Rattle.rules.specs.Table.{kindOf, nameOf, valueOf, inner, exprOf}
 use Rattle.rules.specs.Places.{Point, stop, tests}
 use Rattle.rules.specs.Standing.{pointAt}
 use Rattle.rules.specs.State.{Task}
+use Rattle.rules.specs.Scheduler.{noNumber}
 use Rattle.moves.specs.declared.Move.the-variants.{Goes, Sets, Spawns, Gives, Waits, Ends}
 use Rattle.moves.specs.Moves.{Moves, intoBody}
 
@@ -40,6 +41,10 @@ module _ (begin : ℕ → ℕ) (vs : List ℤ) (t : Task ℕ) where
         → Moves begin there vs t (Waits z)
     unfolding pointAt
     wait-moves z h e = record { acts = λ issued q. rw (h, e); named = tt }
+
+    pub guard-moves : kindOf p ≡ 13 → Moves begin there vs t (Waits noNumber)
+    unfolding pointAt
+    guard-moves h = record { acts = λ issued q. rw h; named = tt }
 
     module _ (z : ℤ) (is : z ≡ value (record { variables = vs; parameter = t .parameter }) (exprOf (inner p))) where
       pub set-moves : kindOf p ≡ 3 → nameOf p ≤ 64 → Moves begin there vs t (Sets (nameOf p) z k)

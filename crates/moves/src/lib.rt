@@ -7,13 +7,14 @@ use table::record::from;
 use table::record::span_of;
 use table::record::word_of;
 ghost use mathlib.Core.Path.{_≡_};
-ghost use mathlib.Core.Bool.{cond};
+ghost use mathlib.Core.Bool.{true, cond};
 ghost use Prim.Native.Nat.{_+_, _≤_};
 ghost use lib.IntN.{natAbs};
 ghost use lib.ListN.{getD};
 ghost use Rattle.rules.specs.Values.{truth};
 ghost use Rattle.rules.specs.Recipe.{value};
 ghost use Rattle.rules.specs.Table.{kindOf, spanOf, valueOf, inner, exprOf, fine, check, recipeOf};
+ghost use Rattle.rules.specs.Standing.{atPlace};
 ghost use Rattle.state.specs.View.{taskOf};
 ghost use Rattle.ready.specs.Ready.{Placed};
 ghost use Rattle.links.specs.Linked.{Linked};
@@ -21,7 +22,7 @@ ghost use Rattle.moves.specs.Moves.{MovesIn, Part, Enclosing, MovesAt, i
 
 // On to a place; a variable's name, its new value and the next place; the name of the variable for the new task's number,
 // the place where that task starts, its argument and the next place; to the back of the queue, at the next place; to the
-// back, for the value awaited; the end.
+// back, where it stands, with what its log record carries; the end.
 pub enum Move {
     Goes(u16),
     Sets(u8, i32, u16),
@@ -84,7 +85,7 @@ fn statement(
     t: Task,
     variables: &[i32; 64],
 ) -> Move
-    requires { ⌜ Part (now part) × (place + 1 + spanOf (now part) ≤ 4096) × (2 ≤ kindOf (now part)) × (kindOf (now part) ≤ 8) ⌝ }
+    requires { ⌜ Part (now part) × (place + 1 + spanOf (now part) ≤ 4096) × (2 ≤ kindOf (now part)) × (atPlace (kindOf (now part)) ≡ true) ⌝ }
     ensures { λ r. ⌜ MovesAt (now (starts .entry)) (now (part .entry)) place follow (now (variables .entry)) (taskOf t) r ⌝ }
 {
     let kind = part[0];
@@ -102,6 +103,8 @@ fn statement(
         }
         7 => Move::Gives(follow),
         8 => Move::Waits(variable(name, variables, t.parameter)),
+        // A guard: it waits for no number, whatever its value now.
+        13 => Move::Waits(0),
         // An if or a while.
         _ => {
             let v = value_of(part, variables, t.parameter);

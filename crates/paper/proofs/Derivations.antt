@@ -2,17 +2,16 @@
 -- Assumes nothing.
 use Prim.Native.Nat.{ℕ}
 use mathlib.Core.Path.{_≡_, refl, sym, ap, ap₂, _∙_, subst}
-use mathlib.Core.Bool.{Bool, true, false}
 use mathlib.Core.Option.{Option, none, some}
 use mathlib.Core.List.{List, [], _∷_, _++_}
-use Rattle.rules.specs.Recipe.{Stmt, skip, assign, if, while, spawn, suspend, await, Body, fin, _▸_, Recipe, Env}
+use Rattle.rules.specs.Recipe.{Stmt, skip, assign, if, while, spawn, suspend, await, guard, Body, fin, _▸_, Recipe, Env}
 use Rattle.rules.specs.State.{Task}
 use Rattle.rules.specs.Log.{Event}
 use Rattle.rules.specs.Scheduler.{Rules, Config, Next, goes, logOf}
 use Rattle.rules.specs.Steps.{Limits}
-use Rattle.paper.specs.Paper.{Queue, task, PaperState, WhileStep, skip-step, assign-step, if-true, if-false, while-true, while-false, unlimited, Rule, local, spawn-start, return, yield-suspend, yield-await, schedule-simple, schedule-await, rotate, Derivation, empty, rule-then, Name, Local, SpawnStart, Return, YieldSuspend, YieldAwait, ScheduleSimple, ScheduleAwait, Rotate, nameOf}
+use Rattle.paper.specs.Paper.{Queue, task, PaperState, WhileStep, skip-step, assign-step, if-true, if-false, while-true, while-false, unlimited, Rule, local, spawn-start, return, yield-suspend, yield-await, yield-guard, schedule-simple, schedule-await, schedule-guard, rotate-await, rotate-guard, Derivation, empty, rule-then, Name, Local, SpawnStart, Return, YieldSuspend, YieldAwait, YieldGuard, ScheduleSimple, ScheduleAwait, ScheduleGuardDone, ScheduleAwaitWait, ScheduleGuardWait, nameOf}
 use Rattle.paper.specs.Follows.{statements}
-use Rattle.paper.proofs.Exact.{awaitsB, kind, simple-awaits, rule-next}
+use Rattle.paper.proofs.Exact.{Front, an-await, a-guard, another, frontB, kind, simple-front, rule-next}
 
 -- ---- which rule it is: by the active task's first statement, or by the front's and by who is active then
 
@@ -24,21 +23,24 @@ nameS (while e b) = Local
 nameS (spawn v p e) = SpawnStart
 nameS suspend = YieldSuspend
 nameS (await v) = YieldAwait
+nameS (guard e) = YieldGuard
 
 abbrev nameB : Body → Name
 nameB fin = Return
 nameB (s ▸ k) = nameS s
 
-abbrev nameTry : (awaits : Bool) → (then : Option (Task Body)) → Name
-nameTry false a = ScheduleSimple
-nameTry true none = Rotate
-nameTry true (some t) = ScheduleAwait
+abbrev nameTry : Front → (then : Option (Task Body)) → Name
+nameTry another a = ScheduleSimple
+nameTry an-await none = ScheduleAwaitWait
+nameTry an-await (some t) = ScheduleAwait
+nameTry a-guard none = ScheduleGuardWait
+nameTry a-guard (some t) = ScheduleGuardDone
 
 -- (no rule applies to the empty queue)
 abbrev nameBy : (active : Option (Task Body)) → Queue → (then : Option (Task Body)) → Name
 nameBy (some t) q a = nameB (t .place)
-nameBy none [] a = Rotate
-nameBy none (t ∷ q) a = nameTry (awaitsB (t .place)) a
+nameBy none [] a = ScheduleSimple
+nameBy none (t ∷ q) a = nameTry (frontB (t .place)) a
 
 while-name : {f : ℕ} {s s′ : Body} {σ σ′ : Env} {event : Option Event} → WhileStep f s σ event s′ σ′ → Local ≡ nameB s
 while-name skip-step = refl
@@ -61,10 +63,13 @@ module _ {full : Limits} {r : Recipe} where
   name-is return = refl
   name-is yield-suspend = refl
   name-is yield-await = refl
+  name-is yield-guard = refl
   name-is (schedule-simple {f} {s} {z} {q} h) =
-      ap (λ (b : Bool). nameTry b (some (task f s z))) (sym (simple-awaits (kind s) h))
+      ap (λ (b : Front). nameTry b (some (task f s z))) (sym (simple-front (kind s) h))
   name-is (schedule-await d) = refl
-  name-is (rotate n any) = refl
+  name-is (schedule-guard h) = refl
+  name-is (rotate-await n any) = refl
+  name-is (rotate-guard h any) = refl
 
   -- ---- at most one rule applies, and it does one thing
 
@@ -93,9 +98,12 @@ module _ {full : Limits} {r : Recipe} where
   free-rule return = return
   free-rule yield-suspend = yield-suspend
   free-rule yield-await = yield-await
+  free-rule yield-guard = yield-guard
   free-rule (schedule-simple h) = schedule-simple h
   free-rule (schedule-await d) = schedule-await d
-  free-rule (rotate n any) = rotate n any
+  free-rule (schedule-guard h) = schedule-guard h
+  free-rule (rotate-await n any) = rotate-await n any
+  free-rule (rotate-guard h any) = rotate-guard h any
 
   pub free : {c d : PaperState} {n : ℕ} {log : List Event}
       → Derivation full r c n log d

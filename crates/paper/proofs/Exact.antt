@@ -11,37 +11,48 @@ use lib.IntN.{ℤ, pos, negsuc}
 use lib.ListN.{length, getD}
 use borrow.Author.Tests.{eq-eqb, le-leb, ltb-true, ltb-false, leb-true, eqb-true}
 use Rattle.rules.specs.Values.{truth}
-use Rattle.rules.specs.Recipe.{Expr, Stmt, skip, assign, if, while, spawn, suspend, await, Body, fin, _▸_, Recipe, Env, read, write, value}
+use Rattle.rules.specs.Recipe.{Expr, Stmt, skip, assign, if, while, spawn, suspend, await, guard, Body, fin, _▸_, Recipe, Env, read, write, value}
 use Rattle.rules.specs.Rest.{_then_, look}
 use Rattle.rules.specs.State.{Task, Store}
 use Rattle.rules.specs.Log.{Event, taken, gave, waits, ended}
-use Rattle.rules.specs.Scheduler.{Readiness, ready, waits-for, isReady, Rules, Stay, on, back, over, Limit, does, is, count, isLive, readiness, canGo, anyGo, Next, finish, jam, bar, goes, tryOf, jamOr, stay, nextAct, next}
+use Rattle.rules.specs.Scheduler.{Readiness, ready, waits-for, at-guard, isReady, noNumber, Rules, Stay, on, back, over, Limit, does, is, count, isLive, readiness, canGo, anyGo, Next, finish, jam, bar, goes, tryOf, jamOr, stay, nextAct, next}
 use Rattle.rules.specs.Steps.{Limits, isDone, valveOf, waitAt, pastAt, spawnAt}
-use Rattle.paper.specs.Paper.{Queue, task, PaperState, running, idle, env, memory, WhileStep, skip-step, assign-step, if-true, if-false, while-true, while-false, Any, here, there, InDom, Done, NotAwait, Schedulable, simple, wait-over, Rule, local, spawn-start, return, yield-suspend, yield-await, schedule-simple, schedule-await, rotate, Barred, barred, Finished, finished, Stuck, stuck}
+use Rattle.paper.specs.Paper.{Queue, task, PaperState, running, idle, env, memory, WhileStep, skip-step, assign-step, if-true, if-false, while-true, while-false, Any, here, there, InDom, Done, NotWaiting, Schedulable, simple, wait-over, guard-true, Rule, local, spawn-start, return, yield-suspend, yield-await, yield-guard, schedule-simple, schedule-await, schedule-guard, rotate-await, rotate-guard, Barred, barred, Finished, finished, Stuck, stuck}
 use Rattle.paper.specs.Follows.{statements}
 
--- ---- an await in front, or another statement
+-- ---- an await in front, a guard, or another statement
 
-abbrev awaitsS : Stmt → Bool
-awaitsS skip = false
-awaitsS (assign v e) = false
-awaitsS (if e b) = false
-awaitsS (while e b) = false
-awaitsS (spawn v p e) = false
-awaitsS suspend = false
-awaitsS (await v) = true
+pub data Front : Type 0 where
+  an-await a-guard another : Front
 
-abbrev pub awaitsB : Body → Bool
-awaitsB fin = false
-awaitsB (s ▸ k) = awaitsS s
+abbrev frontS : Stmt → Front
+frontS skip = another
+frontS (assign v e) = another
+frontS (if e b) = another
+frontS (while e b) = another
+frontS (spawn v p e) = another
+frontS suspend = another
+frontS (await v) = an-await
+frontS (guard e) = a-guard
 
-not-await : {k : Body} → awaitsB k ≡ false → NotAwait k
-not-await h x s′ e = true≢false (sym (ap awaitsB e) ∙ h)
+abbrev pub frontB : Body → Front
+frontB fin = another
+frontB (s ▸ k) = frontS s
+
+abbrev mayWait : Front → Bool
+mayWait an-await = true
+mayWait a-guard = true
+mayWait another = false
+
+not-waiting : {k : Body} → frontB k ≡ another → NotWaiting k
+not-waiting h =
+    (λ x s′ e. true≢false (ap mayWait (sym (ap frontB e) ∙ h)), λ g s′ e. true≢false (ap mayWait (sym (ap frontB e) ∙ h)))
 
 pub data Kind : Body → Type 0 where
-  waiting : {x : ℕ} {s : Body} → Kind (await x ▸ s)
+  awaiting : {x : ℕ} {s : Body} → Kind (await x ▸ s)
+  guarded : {g : Expr} {s : Body} → Kind (guard g ▸ s)
   going : {s : Body}
-      → awaitsB s ≡ false
+      → frontB s ≡ another
       → ((σ : Store) (l : ℕ → Bool) (t : Task Body) → waitAt (look s) σ l t ≡ ready)
       → ((t : Task Body) → pastAt (look s) t ≡ t)
       → Kind s
@@ -55,21 +66,25 @@ kind (if e b ▸ s) = going refl (λ σ l t. refl) (λ t. refl)
 kind (while e b ▸ s) = going refl (λ σ l t. refl) (λ t. refl)
 kind (spawn v p e ▸ s) = going refl (λ σ l t. refl) (λ t. refl)
 kind (suspend ▸ s) = going refl (λ σ l t. refl) (λ t. refl)
-kind (await x ▸ s) = waiting
+kind (await x ▸ s) = awaiting
+kind (guard e ▸ s) = guarded
 
--- "s is not of the form await x; s′": the task is ready, and is taken up where it stands
-simple-ready : {s : Body} → Kind s → NotAwait s → (σ : Store) (l : ℕ → Bool) (t : Task Body)
+-- at another statement a task is ready, and is taken up where it stands
+simple-ready : {s : Body} → Kind s → NotWaiting s → (σ : Store) (l : ℕ → Bool) (t : Task Body)
     → waitAt (look s) σ l t ≡ ready
-simple-ready (waiting {x} {s}) h σ l t = absurd (h x s refl)
+simple-ready (awaiting {x} {s}) h σ l t = absurd (h .0 x s refl)
+simple-ready (guarded {g} {s}) h σ l t = absurd (h .1 g s refl)
 simple-ready (going h g p) _ σ l t = g σ l t
 
-simple-past : {s : Body} → Kind s → NotAwait s → (t : Task Body) → pastAt (look s) t ≡ t
-simple-past (waiting {x} {s}) h t = absurd (h x s refl)
+simple-past : {s : Body} → Kind s → NotWaiting s → (t : Task Body) → pastAt (look s) t ≡ t
+simple-past (awaiting {x} {s}) h t = absurd (h .0 x s refl)
+simple-past (guarded {g} {s}) h t = absurd (h .1 g s refl)
 simple-past (going h g p) _ t = p t
 
-pub simple-awaits : {s : Body} → Kind s → NotAwait s → awaitsB s ≡ false
-simple-awaits (waiting {x} {s}) h = absurd (h x s refl)
-simple-awaits (going h g p) _ = h
+pub simple-front : {s : Body} → Kind s → NotWaiting s → frontB s ≡ another
+simple-front (awaiting {x} {s}) h = absurd (h .0 x s refl)
+simple-front (guarded {g} {s}) h = absurd (h .1 g s refl)
+simple-front (going h g p) _ = h
 
 not-true : (b : Bool) → ¬ (b ≡ true) → b ≡ false
 not-true true h = absurd (h refl)
@@ -137,19 +152,24 @@ module _ (full : Limits) (r : Recipe) where
     has-to-wait : {f x : ℕ} {s : Body} {z : ℤ}
         → ¬ Done w σ (read (env σ z) x)
         → Reads w σ (task f (await x ▸ s) z) (waits-for (read (env σ z) x))
+    guard-untrue : {f : ℕ} {g : Expr} {s : Body} {z : ℤ}
+        → truth (value (env σ z) g) ≡ false
+        → Reads w σ (task f (guard g ▸ s) z) at-guard
 
   reads-is : {w : Queue} {σ : Store} {t : Task Body} {v : Readiness} → Reads w σ t v → readiness S (idle w σ) t ≡ v
   unfolding look
   reads-is {w} {σ} (can-go (simple {f} {s} {z} h)) = simple-ready (kind s) h σ (isLive S w) (task f s z)
   reads-is {w} {σ} (can-go (wait-over {f} {x} {s} {z} d)) = rw (done-holds σ w (read (env σ z) x) d)
+  reads-is (can-go (guard-true h)) = rw h
   reads-is {w} {σ} (has-to-wait {f} {x} {s} {z} n) =
       rw (not-true (isDone (σ .issued) (isLive S w) (read (env σ z) x)) (λ h. n (done-yes σ w (read (env σ z) x) h)))
+  reads-is (guard-untrue h) = rw h
 
   reads-at : {s : Body} → Kind s → (w : Queue) (σ : Store) (f : ℕ) (z : ℤ)
       → Reads w σ (task f s z) (readiness S (idle w σ) (task f s z))
   unfolding look
-  reads-at {s} (going h g p) w σ f z = rw (g σ (isLive S w) (task f s z)) (can-go (simple (not-await h)))
-  reads-at (waiting {x} {s}) w σ f z = go (isDone (σ .issued) (isLive S w) v) refl
+  reads-at {s} (going h g p) w σ f z = rw (g σ (isLive S w) (task f s z)) (can-go (simple (not-waiting h)))
+  reads-at (awaiting {x} {s}) w σ f z = go (isDone (σ .issued) (isLive S w) v) refl
     where
       v : ℤ
       v = read (env σ z) x
@@ -159,6 +179,11 @@ module _ (full : Limits) (r : Recipe) where
           → Reads w σ (task f (await x ▸ s) z) (cond b ready (waits-for v))
       go true h = can-go (wait-over (done-yes σ w v h))
       go false h = has-to-wait (λ d. true≢false (sym (done-holds σ w v d) ∙ h))
+  reads-at (guarded {g} {s}) w σ f z = go (truth (value (env σ z) g)) refl
+    where
+      go : (b : Bool) → truth (value (env σ z) g) ≡ b → Reads w σ (task f (guard g ▸ s) z) (cond b ready at-guard)
+      go true h = can-go (guard-true h)
+      go false h = guard-untrue h
 
   reads : (w : Queue) (σ : Store) (t : Task Body) → Reads w σ t (readiness S (idle w σ) t)
   reads w σ t = reads-at (kind (t .place)) w σ (t .number) (t .parameter)
@@ -178,6 +203,7 @@ module _ (full : Limits) (r : Recipe) where
           → Any (Schedulable w σ) (t ∷ q)
       go ready (can-go u) h ih = here u
       go (waits-for z) u h ih = there (ih h)
+      go at-guard u h ih = there (ih h)
 
   -- ---- a rule that applies is what comes next
 
@@ -214,11 +240,14 @@ module _ (full : Limits) (r : Recipe) where
   rule-next (yield-suspend {f} {s} {z} {q} {σ}) = quiet σ q (back (task f s z)) (some (gave f))
   rule-next (yield-await {f} {x} {s} {z} {q} {σ}) =
       quiet σ q (back (task f (await x ▸ s) z)) (some (waits f (read (env σ z) x)))
+  rule-next (yield-guard {f} {g} {s} {z} {q} {σ}) = quiet σ q (back (task f (guard g ▸ s) z)) (some (waits f noNumber))
   rule-next (schedule-simple {f} {s} {z} {q} {σ} h) =
       tries (here (simple h)) (can-go (simple h))
       ∙ ap (λ (t : Task Body). goes (some (taken f)) (running t q σ)) (simple-past (kind s) h (task f s z))
   rule-next (schedule-await d) = tries (here (wait-over d)) (can-go (wait-over d))
-  rule-next (rotate n any) = tries any (has-to-wait n)
+  rule-next (schedule-guard h) = tries (here (guard-true h)) (can-go (guard-true h))
+  rule-next (rotate-await n any) = tries any (has-to-wait n)
+  rule-next (rotate-guard h any) = tries any (guard-untrue h)
 
   pub finished-next : {c : PaperState} → Finished c → next S c ≡ finish
   finished-next finished = refl
@@ -291,6 +320,8 @@ module _ (full : Limits) (r : Recipe) where
   says-running σ f (suspend ▸ s) z q d = says-quiet σ q (back (task f s z)) (some (gave f)) yield-suspend
   says-running σ f (await x ▸ s) z q d =
       says-quiet σ q (back (task f (await x ▸ s) z)) (some (waits f (read (env σ z) x))) yield-await
+  says-running σ f (guard g ▸ s) z q d =
+      says-quiet σ q (back (task f (guard g ▸ s) z)) (some (waits f noNumber)) yield-guard
 
   -- the front is taken up, or turned if another can go on
   says-try : {t : Task Body} {σ : Store} {v : Readiness} (q : Queue)
@@ -300,7 +331,9 @@ module _ (full : Limits) (r : Recipe) where
   unfolding look
   says-try q any (can-go (simple {f} {s} {z} h)) = rw (simple-past (kind s) h (task f s z)) (schedule-simple h)
   says-try q any (can-go (wait-over d)) = schedule-await d
-  says-try q any (has-to-wait n) = rotate n any
+  says-try q any (can-go (guard-true h)) = schedule-guard h
+  says-try q any (has-to-wait n) = rotate-await n any
+  says-try q any (guard-untrue h) = rotate-guard h any
 
   says-idle : (q : Queue) (σ : Store) → Says (idle q σ) (next S (idle q σ))
   says-idle [] σ = finished

@@ -11,16 +11,16 @@ use lib.IntN.{ℤ}
 use lib.ListN.{length, getD, length-map}
 use Rattle.rules.specs.Values.{truth}
 use Rattle.rules.specs.Recipe.{Expr, spawn, Body, fin, _▸_, Recipe, Within, value}
-use Rattle.rules.specs.Places.{Point, nowhere, stop, skips, assigns, tests, spawns, suspends, awaits, at, stands, isPlace, start}
+use Rattle.rules.specs.Places.{Point, nowhere, stop, skips, assigns, tests, spawns, suspends, awaits, guards, at, stands, isPlace, start}
 use Rattle.rules.specs.Rest.{rest, look}
 use Rattle.rules.specs.State.{Task, Store, State}
 use Rattle.rules.specs.Log.{Event}
-use Rattle.rules.specs.Scheduler.{Rules, Readiness, ready, waits-for, isReady, Stay, on, back, over, Limit, Act, halts, does, is, count, isLive, readiness, anyGo, Next, finish, jam, bar, goes, tryOf, jamOr, nextIdle, stay, nextAct, next}
+use Rattle.rules.specs.Scheduler.{Rules, Readiness, ready, waits-for, at-guard, isReady, Stay, on, back, over, Limit, Act, halts, does, is, count, isLive, readiness, anyGo, Next, finish, jam, bar, goes, tryOf, jamOr, nextIdle, stay, nextAct, next}
 use Rattle.rules.specs.Steps.{Limits, envOf, waitAt, pastAt, spawnAt, actAt}
 use Rattle.rules.specs.Fairness.{Every}
 use Rattle.rules.proofs.Lists.{every-append}
 use Rattle.rules.proofs.Ranges.{either}
-use Rattle.rules.proofs.Places.{Fits, none-fits, stop-fits, skip-fits, assign-fits, if-fits, while-fits, spawn-fits, suspend-fits, await-fits, fits, starts, spawn-named, Leads, leads, start-place}
+use Rattle.rules.proofs.Places.{Fits, none-fits, stop-fits, skip-fits, assign-fits, if-fits, while-fits, spawn-fits, suspend-fits, await-fits, guard-fits, fits, starts, spawn-named, Leads, leads, start-place}
 use Rattle.paper.specs.Paper.{Queue}
 use Rattle.paper.specs.Follows.{places, statements, toDo, shownTask, shown, shownNext, Placed}
 
@@ -36,6 +36,7 @@ shownPoint f (tests e k l) = tests e (Option·getD (f k) fin) (Option·getD (f l
 shownPoint f (spawns v p e k) = spawns v p e (Option·getD (f k) fin)
 shownPoint f (suspends k) = suspends (Option·getD (f k) fin)
 shownPoint f (awaits v k) = awaits v (Option·getD (f k) fin)
+shownPoint f (guards e k) = guards e (Option·getD (f k) fin)
 
 -- is what the statements still to do from there begin with
 looked : {f : ℕ → Option Body} {n : ℕ} {p : Point ℕ} {o : Option Body}
@@ -52,6 +53,7 @@ looked (while-fits c h k) g = rw (h, k)
 looked (spawn-fits c h) g = rw h
 looked (suspend-fits h) g = rw h
 looked (await-fits c h) g = rw h
+looked (guard-fits c h) g = rw h
 
 stands-some : {f : ℕ → Option Body} {n : ℕ} {p : Point ℕ} {o : Option Body}
     → Fits f n p o
@@ -65,6 +67,7 @@ stands-some (while-fits c h k) = (λ g. tt, λ g. refl)
 stands-some (spawn-fits c h) = (λ g. tt, λ g. refl)
 stands-some (suspend-fits h) = (λ g. tt, λ g. refl)
 stands-some (await-fits c h) = (λ g. tt, λ g. refl)
+stands-some (guard-fits c h) = (λ g. tt, λ g. refl)
 
 -- an index is a place exactly where the statements still to do are known
 pub place-rest : (r : Recipe) → Within r → (i : ℕ) → (isPlace r i ≡ true) ↔ IsSome (rest r i)
@@ -99,6 +102,7 @@ module _ (r : Recipe) where
   shown-wait (spawns v p e k) s live t = refl
   shown-wait (suspends k) s live t = refl
   shown-wait (awaits v k) s live t = refl
+  shown-wait (guards e k) s live t = refl
 
   shown-past : (p : Point ℕ) (t : Task ℕ) → pastAt (shownPoint (rest r) p) (shownTask r t) ≡ shownTask r (pastAt p t)
   shown-past nowhere t = refl
@@ -109,6 +113,7 @@ module _ (r : Recipe) where
   shown-past (spawns v p e k) t = refl
   shown-past (suspends k) t = refl
   shown-past (awaits v k) t = refl
+  shown-past (guards e k) t = refl
 
   past-at : (p : Point ℕ) (t : Task ℕ) → Leads r p → At t → At (pastAt p t)
   past-at nowhere t h a = a
@@ -119,6 +124,7 @@ module _ (r : Recipe) where
   past-at (spawns v p e k) t h a = a
   past-at (suspends k) t h a = a
   past-at (awaits v k) t h a = h .1
+  past-at (guards e k) t h a = h .1
 
   shown-cond : (b : Bool) (k l : ℕ) → cond b (toDo r k) (toDo r l) ≡ toDo r (cond b k l)
   shown-cond true k l = refl
@@ -188,6 +194,7 @@ module _ (full : Limits) (r : Recipe) (w : Within r) where
       ∙ shown-spawn r (full (length q) (s .issued)) s t v (start r p) (value (envOf s t) e) k
   shown-act (suspends k) s q t h = refl
   shown-act (awaits v k) s q t h = refl
+  shown-act (guards e k) s q t h = refl
 
   act-at : (p : Point ℕ) (s : Store) (q : List (Task ℕ)) (t : Task ℕ)
       → Leads r p
@@ -203,6 +210,7 @@ module _ (full : Limits) (r : Recipe) (w : Within r) where
       spawn-at r (full (length q) (s .issued)) s t v (start r p) (value (envOf s t) e) k (start-place r w p (h .2)) (h .4)
   act-at (suspends k) s q t h a = (tt, h)
   act-at (awaits v k) s q t h a = (tt, a)
+  act-at (guards e k) s q t h a = (tt, a)
 
   -- ---- who is ready
 
@@ -227,6 +235,7 @@ module _ (full : Limits) (r : Recipe) (w : Within r) where
       → tryOf S v (shown r c) (shownTask r t) (shownQueue r q) ≡ shownNext full r (tryOf R v c t q)
   shown-try ready c t q a = rw (see t a, shown-past r (at r (t .place)) t)
   shown-try (waits-for z) c t q a = rw (shown-append r q (t ∷ []))
+  shown-try at-guard c t q a = rw (shown-append r q (t ∷ []))
 
   shown-jam : (b : Bool) (y : Next S) (x : Next R) → y ≡ shownNext full r x → jamOr S b y ≡ shownNext full r (jamOr R b x)
   shown-jam true y x e = e
@@ -281,6 +290,7 @@ module _ (full : Limits) (r : Recipe) (w : Within r) where
       → PlacedNext (tryOf R v c t q)
   placed-try ready c t q a b = (past-at r (at r (t .place)) t (leads r w (t .place)) a, b)
   placed-try (waits-for z) c t q a b = every-append (At r) q (t ∷ []) b (a, tt)
+  placed-try at-guard c t q a b = every-append (At r) q (t ∷ []) b (a, tt)
 
   placed-jam : (b : Bool) (x : Next R) → PlacedNext x → PlacedNext (jamOr R b x)
   placed-jam true x a = a

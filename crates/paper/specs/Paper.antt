@@ -1,6 +1,7 @@
 -- Document 002 (Hähnle and Henrio 2023): the configurations of section 3.1 and the rules of figure 4, with the queue of
--- section 7.2. Each rule stands under its own name, and says where document 01 has us differ. Figure 4 numbers no rule;
--- the numbers are those of section 7.2.
+-- section 7.2, and those of figure 7, by which section 8 would add guards to CoopWhile. Each rule stands under its own name,
+-- and says where document 01, or for guards request 2.1 of document 02, has us differ. The figures number no rule; the
+-- numbers are those of section 7.2, and (9) and (10) of section 6.
 -- Assumes nothing.
 use Prim.Native.Nat.{ℕ, suc, _≤_, _<_}
 use mathlib.Core.Path.{_≡_}
@@ -10,11 +11,11 @@ use mathlib.Core.List.{List, [], _∷_, _++_}
 use lib.IntN.{ℤ, pos}
 use lib.ListN.{length, getD, replicate}
 use Rattle.rules.specs.Values.{truth}
-use Rattle.rules.specs.Recipe.{Expr, skip, assign, if, while, spawn, suspend, await, Body, fin, _▸_, Recipe, Env, read, write, value}
+use Rattle.rules.specs.Recipe.{Expr, skip, assign, if, while, spawn, suspend, await, guard, Body, fin, _▸_, Recipe, Env, read, write, value}
 use Rattle.rules.specs.Rest.{_then_}
 use Rattle.rules.specs.State.{Task, Store, Configuration}
 use Rattle.rules.specs.Log.{Event, spawned, taken, gave, waits, turned, ended}
-use Rattle.rules.specs.Scheduler.{Limit, logOf}
+use Rattle.rules.specs.Scheduler.{noNumber, Limit, logOf}
 use Rattle.rules.specs.Steps.{Limits, valveOf}
 
 -- ---- configurations
@@ -97,16 +98,20 @@ pub record Done (q : Queue) (σ : Store) (awaited : ℤ) : Type 0 where
   pub was-issued : number ≤ σ .issued
   pub not-live : ¬ InDom number q
 
--- "s is not of the form await x; s′"
-abbrev pub NotAwait : Body → Type 0
-NotAwait s = (x : ℕ) (s′ : Body) → ¬ (s ≡ await x ▸ s′)
+-- "s is not of the form await x; s′"; nor (:: g; s′), for which figure 7 has rules of its own. (Section 8: "in SOS one needs
+-- to look at each rule for each such statement".)
+abbrev pub NotWaiting : Body → Type 0
+NotWaiting s = ((x : ℕ) (s′ : Body) → ¬ (s ≡ await x ▸ s′)) × ((g : Expr) (s′ : Body) → ¬ (s ≡ guard g ▸ s′))
 
--- at the front one of the two scheduling rules would take the task up
+-- at the front a scheduling rule would take the task up
 pub data Schedulable (q : Queue) (σ : Store) : Task Body → Type 0 where
-  simple : {f : ℕ} {s : Body} {z : ℤ} → NotAwait s → Schedulable q σ (task f s z)
+  simple : {f : ℕ} {s : Body} {z : ℤ} → NotWaiting s → Schedulable q σ (task f s z)
   wait-over : {f x : ℕ} {s : Body} {z : ℤ}
       → Done q σ (read (env σ z) x)
       → Schedulable q σ (task f (await x ▸ s) z)
+  guard-true : {f : ℕ} {g : Expr} {s : Body} {z : ℤ}
+      → truth (value (env σ z) g) ≡ true
+      → Schedulable q σ (task f (guard g ▸ s) z)
 
 -- ---- the rules
 
@@ -156,9 +161,14 @@ module _ (full : Limits) (r : Recipe) where
         (running (task f (await x ▸ s) z) q σ)
         (some (waits f (read (env σ z) x)))
         (idle (push q (task f (await x ▸ s) z)) σ)
+    -- YieldGuard of figure 7, which by a slip has T on the left and q on the right. "A task reaching it joins the back like
+    -- an await", be it true or not. With (9) alone, which is all that section 8 adds to section 7.2, a task would pass a
+    -- guard that is true when reached, by (22), and at an untrue one no rule would apply.
+    yield-guard : {f : ℕ} {g : Expr} {s : Body} {z : ℤ} {q : Queue} {σ : Store}
+        → Rule (running (task f (guard g ▸ s) z) q σ) (some (waits f noNumber)) (idle (push q (task f (guard g ▸ s) z)) σ)
     -- ScheduleSimple, of the front as in figure 5; (19) for a task that has not begun, else (20).
     schedule-simple : {f : ℕ} {s : Body} {z : ℤ} {q : Queue} {σ : Store}
-        → NotAwait s
+        → NotWaiting s
         → Rule (idle (task f s z ∷ q) σ) (some (taken f)) (running (task f s z) q σ)
     -- ScheduleAwait, of the front (ScheduleAwaitDone of figure 5); (20). We differ by `Done`.
     -- The second difference that document 01 names: by section 7.2 a task that comes to an await from a suspend, or from
@@ -166,15 +176,28 @@ module _ (full : Limits) (r : Recipe) where
     schedule-await : {f x : ℕ} {s : Body} {z : ℤ} {q : Queue} {σ : Store}
         → Done (task f (await x ▸ s) z ∷ q) σ (read (env σ z) x)
         → Rule (idle (task f (await x ▸ s) z ∷ q) σ) (some (taken f)) (running (task f s z) q σ)
+    -- ScheduleGuardDone of figure 7; (20) with (9). "When tried it passes only if the expression is true then": worked out
+    -- with the waiting task's own parameter.
+    schedule-guard : {f : ℕ} {g : Expr} {s : Body} {z : ℤ} {q : Queue} {σ : Store}
+        → truth (value (env σ z) g) ≡ true
+        → Rule (idle (task f (guard g ▸ s) z ∷ q) σ) (some (taken f)) (running (task f s z) q σ)
     -- "the queue is rotated in rule ScheduleAwaitWait" (figure 5); (21). We differ by the last premise: "Document 002's
     -- rotation could turn a queue of waiters for ever; here that is "stuck"."
-    rotate : {f x : ℕ} {s : Body} {z : ℤ} {q : Queue} {σ : Store}
+    rotate-await : {f x : ℕ} {s : Body} {z : ℤ} {q : Queue} {σ : Store}
         → ¬ Done (task f (await x ▸ s) z ∷ q) σ (read (env σ z) x)
         → Any (Schedulable (task f (await x ▸ s) z ∷ q) σ) (task f (await x ▸ s) z ∷ q)
         → Rule
         (idle (task f (await x ▸ s) z ∷ q) σ)
         (some (turned f (read (env σ z) x)))
         (idle (push q (task f (await x ▸ s) z)) σ)
+    -- ScheduleGuardWait of figure 7; (10): "and otherwise it is turned". We differ by the last premise, as for an await.
+    rotate-guard : {f : ℕ} {g : Expr} {s : Body} {z : ℤ} {q : Queue} {σ : Store}
+        → truth (value (env σ z) g) ≡ false
+        → Any (Schedulable (task f (guard g ▸ s) z ∷ q) σ) (task f (guard g ▸ s) z ∷ q)
+        → Rule
+        (idle (task f (guard g ▸ s) z ∷ q) σ)
+        (some (turned f noNumber))
+        (idle (push q (task f (guard g ▸ s) z)) σ)
 
   -- some rule applies
   abbrev pub Applies : PaperState → Type 0
@@ -207,7 +230,8 @@ pub data Stuck : PaperState → Type 0 where
 -- ---- the names of the rules
 
 pub data Name : Type 0 where
-  Local SpawnStart Return YieldSuspend YieldAwait ScheduleSimple ScheduleAwait Rotate : Name
+  Local SpawnStart Return YieldSuspend YieldAwait YieldGuard : Name
+  ScheduleSimple ScheduleAwait ScheduleGuardDone ScheduleAwaitWait ScheduleGuardWait : Name
 
 abbrev pub nameOf : {full : Limits} {r : Recipe} {c d : PaperState} {event : Option Event} → Rule full r c event d → Name
 nameOf (local h) = Local
@@ -215,6 +239,9 @@ nameOf (spawn-start d h) = SpawnStart
 nameOf return = Return
 nameOf yield-suspend = YieldSuspend
 nameOf yield-await = YieldAwait
+nameOf yield-guard = YieldGuard
 nameOf (schedule-simple h) = ScheduleSimple
 nameOf (schedule-await h) = ScheduleAwait
-nameOf (rotate h g) = Rotate
+nameOf (schedule-guard h) = ScheduleGuardDone
+nameOf (rotate-await h g) = ScheduleAwaitWait
+nameOf (rotate-guard h g) = ScheduleGuardWait

@@ -2,28 +2,28 @@
 -- Assumes nothing.
 use Prim.Native.Nat.{ℕ, suc, _≤_, _<_}
 use mathlib.Core.Path.{_≡_}
-use mathlib.Core.Bool.{Bool, true, _&&_, cond, false}
+use mathlib.Core.Bool.{Bool, true, false, _||_, cond}
 use mathlib.Core.Option.{none}
 use mathlib.Core.List.{List, [], _∷_}
-use lib.Dec.{eqb, ltb}
+use lib.Dec.{eqb}
 use lib.IntN.{ℤ, pos, negsuc}
-use lib.ListN.{length, getD}
 use Rattle.rules.specs.Recipe.{Recipe}
 use Rattle.rules.specs.Table.{fine, check, recipeOf}
 use Rattle.rules.specs.Places.{isPlace}
 use Rattle.rules.specs.State.{Task, State}
-use Rattle.rules.specs.Scheduler.{Readiness, ready, waits-for, isLive, readiness, canGo, isReady}
+use Rattle.rules.specs.Scheduler.{Readiness, ready, waits-for, at-guard, isLive, readiness, canGo, isReady}
 use Rattle.rules.specs.Steps.{isDone, recipes}
 use Rattle.rules.specs.Fairness.{Every}
 use Rattle.state.specs.View.{taskOf, entry, queueOf}
 use Rattle.ready.specs.declared.Wait.{Wait}
 use Rattle.ready.specs.declared.Queued.{Queued}
-use Rattle.ready.specs.declared.Wait.the-variants.{Ready, Waits}
+use Rattle.ready.specs.declared.Wait.the-variants.{Ready, Waits, AtGuard}
 
--- "each queued task is ready, or waits with the number it waits for"
+-- "each queued task is ready, or waits with the number it waits for", or for an untrue guard
 abbrev pub readinessOf : Wait → Readiness
 readinessOf Ready = ready
 readinessOf (Waits z) = waits-for z
+readinessOf AtGuard = at-guard
 
 -- the state with no task active, as the code has it: the queue is a ring of packed tasks
 abbrev pub idle : (issued : ℕ) → (variables : List ℤ) → (queue : List ℕ) → (front queued : ℕ) → State
@@ -51,9 +51,9 @@ abbrev pub natural : ℤ → ℕ
 natural (pos n) = n
 natural (negsuc n) = 0
 
--- an await's record starts at this byte of the table
-abbrev pub awaitAt : (table : List ℕ) → (off : ℕ) → Bool
-awaitAt t off = ltb off (length t) && eqb (getD t off 0) 8
+-- the kinds at which a task can wait: an await and a guard
+abbrev pub waitKind : (kind : ℕ) → Bool
+waitKind k = eqb k 8 || eqb k 13
 
 -- what is said of the queued task i from the front
 pub record Describes (table : List ℕ) (issued : ℕ) (variables : List ℤ) (queue : List ℕ) (front queued i : ℕ) (x : Queued) : Type 0 where

@@ -1,26 +1,31 @@
 // Which queued tasks are ready. The queue is a ring of packed tasks: `queued` of them, the front at the index `front`.
+use expr::eval;
 use expr::variable;
 use state::Task;
 use state::unpack;
+use table::record::enclosed;
+use table::record::from;
 ghost use mathlib.Core.Path.{_≡_};
 ghost use mathlib.Core.Bool.{true, false};
-ghost use Prim.Native.Nat.{ℕ, _<_, _≤_};
+ghost use Prim.Native.Nat.{ℕ, _*_, _/_, _<_, _≤_};
+ghost use lib.ListN.{getD};
 ghost use Rattle.rules.specs.Recipe.{Recipe};
 ghost use Rattle.rules.specs.Table.{fine, check, recipeOf};
 ghost use Rattle.rules.specs.Places.{at, isPlace};
 ghost use Rattle.rules.specs.State as R;
-ghost use Rattle.rules.specs.Scheduler.{isLive, isReady, waits-for, canGo};
+ghost use Rattle.rules.specs.Scheduler.{isLive, isReady, canGo};
 ghost use Rattle.rules.specs.Steps.{isDone, recipes, goTo, pastAt};
 ghost use Rattle.state.specs.View.{taskOf, entry, queueOf};
-ghost use Rattle.ready.specs.Ready.{readinessOf, idle, readyIn, aheadIn, natural, awaitAt, Describes, NotDone, Placed, Held, Waiting};
+ghost use Rattle.ready.specs.Ready.{readinessOf, idle, readyIn, aheadIn, natural, waitKind, Describes, NotDone, Placed, Held, Waiting};
 ghost use Rattle.links.specs.Linked.{Leads};
 
 pub enum Wait {
     Ready,
     Waits(i32),
+    AtGuard,
 }
 
-// A queued task, and whether it is ready or the number that it waits for.
+// A queued task, and whether it is ready, waits for a number, or waits at a guard.
 pub struct Queued {
     pub task: Task,
     pub wait: Wait,
@@ -68,18 +73,40 @@ fn is_done(queue: &[u64; 32], front: usize, queued: usize, issued: u16, v: i32) 
     !live
 }
 
-// Whether an await's record starts at `off`.
-fn is_await(table: &[u8], off: usize) -> bool
-    ensures { λ r. ⌜ r ≡ awaitAt (now (table .entry)) off ⌝ }
+// The kind of the record that starts at `off`; 0, which is none, behind the last.
+fn kind_at(table: &[u8], off: usize) -> u8
+    ensures { λ r. ⌜ r ≡ getD (now (table .entry)) off 0 ⌝ }
 {
     if table.len() <= off {
-        return false;
+        return 0;
     }
-    table[off] == 8
+    table[off]
 }
 
-// Whether a task is ready, or the number that it waits for. Of the number `known` it is known that it is not done: as a rule, tasks
-// that wait one behind another wait for the same.
+// Whether a task can wait at a record of this kind: an await or a guard.
+fn can_wait(kind: u8) -> bool
+    ensures { λ r. ⌜ r ≡ waitKind kind ⌝ }
+{
+    if kind == 8 {
+        return true;
+    }
+    kind == 13
+}
+
+// Whether a task at a guard is ready: whether its expression is true now, with the task's own parameter.
+fn guarded(table: &[u8], t: Task, variables: &[i32; 64]) -> Wait
+    requires { ⌜ (check (now table) ≡ fine) × Placed (recipeOf (now table)) (taskOf t) × (getD (now table) (8 * t .place) 0 ≡ 13) ⌝ }
+    ensures { λ r. ⌜ ((c : R.State) → c .store .variables ≡ now (variables .entry) → readinessOf r ≡ readyIn (now (table .entry)) c (taskOf t)) ⌝ }
+{
+    let part = from(table, 8 * (t.place as usize));
+    if eval(enclosed(part), variables, t.parameter) == 0 {
+        return Wait::AtGuard;
+    }
+    Wait::Ready
+}
+
+// Whether a task is ready, or what it waits for. Of the number `known` it is known that it is not done: as a rule, tasks that wait one
+// behind another wait for the same.
 fn wait_of(
     table: &[u8],
     t: Task,
@@ -94,7 +121,8 @@ fn wait_of(
     ensures { λ r. ⌜ readinessOf r ≡ readyIn (now (table .entry)) (idle issued (now (variables .entry)) (now (queue .entry)) front queued) (taskOf t) ⌝ }
 {
     let off = 8 * (t.place as usize);
-    if is_await(table, off) {
+    let kind = kind_at(table, off);
+    if kind == 8 {
         let v = variable(table[off + 1], variables, t.parameter);
         if v == known {
             return Wait::Waits(v);
@@ -103,6 +131,9 @@ fn wait_of(
             return Wait::Ready;
         }
         return Wait::Waits(v);
+    }
+    if kind == 13 {
+        return guarded(table, t, variables);
     }
     Wait::Ready
 }
@@ -130,16 +161,19 @@ fn queued_at(
     }
 }
 
-// The value that a task waits for, of which it is known that it waits.
-fn awaited_by(table: &[u8], t: Task, variables: &[i32; 64]) -> i32
+// What a task waits for, of which it is known that it waits.
+fn held_by(table: &[u8], t: Task, variables: &[i32; 64]) -> Wait
     requires { ⌜ (check (now table) ≡ fine) × Placed (recipeOf (now table)) (taskOf t) × Held (now table) (taskOf t) ⌝ }
-    ensures { λ r. ⌜ ((c : R.State) → c .store .variables ≡ now (variables .entry) → isReady (readyIn (now (table .entry)) c (taskOf t)) ≡ false → waits-for r ≡ readyIn (now (table .entry)) c (taskOf t)) ⌝ }
+    ensures { λ r. ⌜ ((c : R.State) → c .store .variables ≡ now (variables .entry) → isReady (readyIn (now (table .entry)) c (taskOf t)) ≡ false → readinessOf r ≡ readyIn (now (table .entry)) c (taskOf t)) ⌝ }
 {
     let off = 8 * (t.place as usize);
-    variable(table[off + 1], variables, t.parameter)
+    if table[off] == 13 {
+        return Wait::AtGuard;
+    }
+    Wait::Waits(variable(table[off + 1], variables, t.parameter))
 }
 
-// The queued task i from the front, of which it is known that it waits: who is done is not looked for again.
+// The queued task i from the front, of which it is known that it waits: who is done or whether its guard is true is not looked for again.
 pub fn waiting_at(
     table: &[u8],
     queue: &[u64; 32],
@@ -154,14 +188,22 @@ pub fn waiting_at(
 {
     let at = (front + i) % 32;
     let task = unpack(queue[at]);
-    let v = awaited_by(table, task, variables);
+    let wait = held_by(table, task, variables);
     Queued {
         task: task,
-        wait: Wait::Waits(v),
+        wait: wait,
     }
 }
 
-// How many tasks stand before the first that is ready.
+// Where a packed task stands: its place and its parameter, one number.
+fn standing(x: u64) -> u64
+    ensures { λ r. ⌜ (r ≡ x / 65536) × (r < 281474976710656) ⌝ }
+{
+    x / 65536
+}
+
+// How many tasks stand before the first that is ready. Who waits is a matter of place and parameter: a task that has both of the last one
+// that waits is not tested again.
 pub fn first_ready(
     table: &[u8],
     queue: &[u64; 32],
@@ -175,29 +217,36 @@ pub fn first_ready(
 {
     let mut i: usize = 0;
     let mut known: i32 = 0; // no task has this number
+    let mut last: u64 = 281474976710656; // more than any place and parameter
     while i < queued {
-        let x = queued_at(table, queue, front, queued, issued, variables, i, known);
-        let wait = x.wait;
-        match wait {
-            Wait::Ready => {
-                return i;
+        let at = (front + i) % 32;
+        let standing = standing(queue[at]);
+        if standing != last {
+            let x = queued_at(table, queue, front, queued, issued, variables, i, known);
+            let wait = x.wait;
+            match wait {
+                Wait::Ready => {
+                    return i;
+                }
+                Wait::Waits(v) => {
+                    known = v;
+                }
+                Wait::AtGuard => {}
             }
-            Wait::Waits(v) => {
-                known = v;
-            }
+            last = standing;
         }
         i += 1;
     }
     queued
 }
 
-// The place of a task that becomes active: past its await, if it stood at one.
+// The place of a task that becomes active: past its await or its guard, if it stood at one.
 pub fn past(table: &[u8], next: &[u16; 4096], place: u16) -> u16
     requires { ⌜ (check (now table) ≡ fine) × (isPlace (recipeOf (now table)) place ≡ true) × Leads (recipeOf (now table)) (now next) ⌝ }
     ensures { λ r. ⌜ ((t : R.Task ℕ) → t .place ≡ place → pastAt (at (recipeOf (now (table .entry))) place) t ≡ goTo t r) ⌝ }
 {
     let i = place as usize;
-    if is_await(table, 8 * i) {
+    if can_wait(kind_at(table, 8 * i)) {
         let follow = next[i];
         return follow;
     }

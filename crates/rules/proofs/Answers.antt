@@ -11,7 +11,7 @@ use lib.ListN.{length, getD, drop, length-append, length-drop}
 use lib.Seq.{drop-at}
 use borrow.Author.Tests.{eqb-true}
 use Rattle.rules.specs.Fields.{bits, bytes4}
-use Rattle.rules.specs.Recipe.{Recipe, Body, skip, assign, if, while, spawn, suspend, await, fin, _▸_}
+use Rattle.rules.specs.Recipe.{Recipe, Body, skip, assign, if, while, spawn, suspend, await, guard, fin, _▸_}
 use Rattle.rules.specs.Table.{Verdict, fine, fault, _else_, unless, Sort, procedure, statement, expression, Ends, at-end, before-end, within, Encloses, nothing, statements, one-expression, expression-statements, two-expressions, recordFault, enclosed, checkE, levels, firstRow, rowsOf, checkRows, checkSpawns, namesNone, procedures, records, lengthFits, check, bodyOf, readR, recipeOf, inner, after, kindOf, kindRow, isOf, spanRight, nameRight, valueRight}
 use Rattle.rules.specs.State.{State, live, fresh, tab, joined, headFits, unlike, taskFits, unusedFits, recordFits, checkRecords, checkBlock, liveIn, issuedIn, readBlock, writeBlock, headRow, taskRow, noTask}
 use Rattle.rules.specs.Log.{Event, spawned, taken, gave, waits, turned, ended, valve, eventRow, logBytes}
@@ -220,6 +220,7 @@ first-place (while e c ▸ b) r = refl
 first-place (spawn n p e ▸ b) r = refl
 first-place (suspend ▸ b) r = refl
 first-place (await n ▸ b) r = refl
+first-place (guard e ▸ b) r = refl
 
 -- an accepted table has a first procedure
 pub some-recipe : (t : List ℕ) → check t ≡ fine → isPlace (recipeOf t) 1 ≡ true

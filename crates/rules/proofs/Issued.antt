@@ -11,10 +11,10 @@ use lib.Dec.{eqb, ltb}
 use lib.IntN.{ℤ}
 use lib.ListN.{length}
 use Rattle.rules.specs.Recipe.{Recipe, value}
-use Rattle.rules.specs.Places.{Point, nowhere, stop, skips, assigns, tests, spawns, suspends, awaits, at, start}
+use Rattle.rules.specs.Places.{Point, nowhere, stop, skips, assigns, tests, spawns, suspends, awaits, guards, at, start}
 use Rattle.rules.specs.State.{Store, Task, State}
 use Rattle.rules.specs.Log.{Event, spawned, taken, gave, waits, turned, ended, valve}
-use Rattle.rules.specs.Scheduler.{Readiness, ready, waits-for, Limit, Act, halts, does, Next, finish, jam, bar, goes, readiness, anyGo, tryOf, jamOr, nextAct, next, logOf}
+use Rattle.rules.specs.Scheduler.{Readiness, ready, waits-for, at-guard, Limit, Act, halts, does, Next, finish, jam, bar, goes, readiness, anyGo, tryOf, jamOr, nextAct, next, logOf}
 use Rattle.rules.specs.Steps.{limits, valveOf, envOf, spawnAt, actAt, recipes}
 use Rattle.rules.specs.Moments.{Call, Moment, trace}
 use Rattle.rules.specs.Fairness.{records}
@@ -71,6 +71,7 @@ module _ (r : Recipe) where
   act-gives (spawns v p e k) s q t = spawn-gives (limits (length q) (s .issued)) s t v (start r p) (value (envOf s t) e) k
   act-gives (suspends k) s q t = quiet (s .issued) _ (λ n. refl)
   act-gives (awaits v k) s q t = quiet (s .issued) _ (λ n. refl)
+  act-gives (guards e k) s q t = quiet (s .issued) _ (λ n. refl)
 
   -- a step
   abbrev NextGives : ℕ → Next (recipes r) → Type 0
@@ -87,6 +88,7 @@ module _ (r : Recipe) where
   try-gives v false s t q = tt
   try-gives ready true s t q = quiet (s .issued) _ (λ n. refl)
   try-gives (waits-for z) true s t q = quiet (s .issued) _ (λ n. refl)
+  try-gives at-guard true s t q = quiet (s .issued) _ (λ n. refl)
 
   next-gives : (s : Store) (a : Option (Task ℕ)) (q : List (Task ℕ)) → NextGives (s .issued) (next (recipes r) (record { store = s; active = a; queue = q }))
   next-gives s none [] = tt

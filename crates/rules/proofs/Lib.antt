@@ -16,5 +16,6 @@ pub mod Issued
 pub mod Blocks
 pub mod Faults
 pub mod Demand
+pub mod Guards
 pub mod Says
 pub mod Witness

@@ -8,8 +8,8 @@ use mathlib.Core.List.{List, [], _∷_, _++_}
 use native.Mathlib.Omega.{arith}
 use native.Mathlib.Decide.{decLe}
 use lib.ListN.{length, getD, replicate, length-append, length-replicate, List·getD-eq-default}
-use Rattle.rules.specs.Recipe.{Expr, Stmt, skip, assign, if, while, spawn, suspend, await, Body, fin, _▸_, Recipe, sizeE, sizeS, sizeB, sizeR, NamedE, NamedS, NamedB, WithinR, Within}
-use Rattle.rules.specs.Places.{Point, nowhere, stop, skips, assigns, tests, spawns, suspends, awaits, enter, pointsS, pointsB, pointsR, at, stands, isPlace, startFrom, start}
+use Rattle.rules.specs.Recipe.{Expr, Stmt, skip, assign, if, while, spawn, suspend, await, guard, Body, fin, _▸_, Recipe, sizeE, sizeS, sizeB, sizeR, NamedE, NamedS, NamedB, WithinR, Within}
+use Rattle.rules.specs.Places.{Point, nowhere, stop, skips, assigns, tests, spawns, suspends, awaits, guards, enter, pointsS, pointsB, pointsR, at, stands, isPlace, startFrom, start}
 use Rattle.rules.specs.Rest.{_then_, restsS, restsB, restsR, rest}
 
 -- A point and the statements to do fit, if the first statement is one of a recipe of n procedures and each index that the point names has the
@@ -24,6 +24,7 @@ pub data Fits (f : ℕ → Option Body) (n : ℕ) : Point ℕ → Option Body �
   spawn-fits : {v p i : ℕ} {e : Expr} {k : Body} → NamedS n (spawn v p e) → f i ≡ some k → Fits f n (spawns v p e i) (some (spawn v p e ▸ k))
   suspend-fits : {i : ℕ} {k : Body} → f i ≡ some k → Fits f n (suspends i) (some (suspend ▸ k))
   await-fits : {v i : ℕ} {k : Body} → NamedS n (await v) → f i ≡ some k → Fits f n (awaits v i) (some (await v ▸ k))
+  guard-fits : {i : ℕ} {e : Expr} {k : Body} → NamedS n (guard e) → f i ≡ some k → Fits f n (guards e i) (some (guard e ▸ k))
 
 -- the values of f from i on
 abbrev Seg : {A : Type 0} → (ℕ → A) → ℕ → List A → Type 0
@@ -58,6 +59,7 @@ mutual
   length-restsS (spawn v p e) k = omega (arith, length-replicate {A = Option Body} (sizeE e) none)
   length-restsS suspend k = refl
   length-restsS (await v) k = refl
+  length-restsS (guard e) k = omega (arith, length-replicate {A = Option Body} (sizeE e) none)
 
   length-restsB : (b : Body) (k : Body) → length (restsB b k) ≡ sizeB b
   length-restsB fin k = refl
@@ -100,6 +102,7 @@ module _ (f : ℕ → Option Body) (n : ℕ) where
   first (spawn v p e) i k os h = h .0
   first suspend i k os h = h .0
   first (await v) i k os h = h .0
+  first (guard e) i k os h = h .0
 
   -- a body is entered where all of it is still to do
   entered : (b : Body) (i j : ℕ) (k : Body) → Seg f i (restsB b k) → f j ≡ some k → f (enter b i j) ≡ some (b then k)
@@ -126,6 +129,7 @@ module _ (f : ℕ → Option Body) (n : ℕ) where
     fitS (spawn v p e) i j k c h g = _&_ (spawn-fits c g) (gap (sizeE e))
     fitS suspend i j k c h g = _&_ (suspend-fits g) end
     fitS (await v) i j k c h g = _&_ (await-fits c g) end
+    fitS (guard e) i j k c h g = _&_ (guard-fits c g) (gap (sizeE e))
 
     fitB : (b : Body) (i j : ℕ) (k : Body) → NamedB n b → Seg f i (restsB b k) → f j ≡ some k → AllFit (pointsB b i j) (restsB b k)
     fitB fin i j k c h g = end
@@ -183,6 +187,7 @@ Leads r (tests e k l) = NamedE e × (isPlace r k ≡ true) × (isPlace r l ≡ t
 Leads r (spawns n p e k) = (8 ≤ n) × (n ≤ 64) × (p < length r) × NamedE e × (isPlace r k ≡ true)
 Leads r (suspends k) = isPlace r k ≡ true
 Leads r (awaits n k) = (n ≤ 64) × (isPlace r k ≡ true)
+Leads r (guards e k) = NamedE e × (isPlace r k ≡ true)
 
 fits-stands : {f : ℕ → Option Body} {n : ℕ} {p : Point ℕ} {k : Body} → Fits f n p (some k) → stands p ≡ true
 fits-stands stop-fits = refl
@@ -193,6 +198,7 @@ fits-stands (while-fits c g h) = refl
 fits-stands (spawn-fits c h) = refl
 fits-stands (suspend-fits h) = refl
 fits-stands (await-fits c h) = refl
+fits-stands (guard-fits c h) = refl
 
 -- where statements are still to do is a place
 place-at : (r : Recipe) → Within r → (i : ℕ) {k : Body} → rest r i ≡ some k → isPlace r i ≡ true
@@ -218,6 +224,7 @@ module _ (r : Recipe) (w : Within r) where
   leads-to (spawn-fits {i = i} c h) = (c .0, c .1, c .3, c .4, place-at r w i h)
   leads-to (suspend-fits {i = i} h) = place-at r w i h
   leads-to (await-fits {i = i} c h) = (c, place-at r w i h)
+  leads-to (guard-fits {i = i} c h) = (c, place-at r w i h)
 
   -- what stands at a place leads only to places
   pub leads : (i : ℕ) → Leads r (at r i)
@@ -238,6 +245,7 @@ mutual
   length-pointsS (spawn v p e) i k = omega (arith, length-replicate {A = Point ℕ} (sizeE e) nowhere)
   length-pointsS suspend i k = refl
   length-pointsS (await v) i k = refl
+  length-pointsS (guard e) i k = omega (arith, length-replicate {A = Point ℕ} (sizeE e) nowhere)
 
   pub length-pointsB : (b : Body) (i k : ℕ) → length (pointsB b i k) ≡ sizeB b
   length-pointsB fin i k = refl

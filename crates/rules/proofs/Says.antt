@@ -13,7 +13,7 @@ use lib.ListN.{length, getD, drop, List·getD-eq-default}
 use borrow.Author.Tests.{eq-eqb, ne-eqb, leb-true, leb-false, eqb-true}
 use Rattle.rules.specs.Recipe.{Recipe, Within, value}
 use Rattle.rules.specs.Table.{Verdict, fine, fault, _else_, records, kindOf, check, recipeOf}
-use Rattle.rules.specs.Places.{Point, nowhere, stop, skips, assigns, tests, spawns, suspends, awaits, at, stands, isPlace, start}
+use Rattle.rules.specs.Places.{Point, nowhere, stop, skips, assigns, tests, spawns, suspends, awaits, guards, at, stands, isPlace, start}
 use Rattle.rules.specs.Standing.{nextOf, pointAt}
 use Rattle.rules.specs.State.{Store, Task, State, live, checkBlock, readBlock}
 use Rattle.rules.specs.Log.{Event}
@@ -43,6 +43,7 @@ isSpawn (tests e k l) = false
 isSpawn (spawns n p e k) = true
 isSpawn (suspends k) = false
 isSpawn (awaits n k) = false
+isSpawn (guards e k) = false
 
 -- what stands at a part's start is a spawn where its kind is 6
 other-point : (p : List ℕ) (i next : ℕ) → ¬ (kindOf p ≡ 6) → isSpawn (pointAt p i next) ≡ false
@@ -54,7 +55,8 @@ other-point p i next h =
     choose isSpawn false (kindOf p) 4 _ _ refl (λ _.
     choose isSpawn false (kindOf p) 5 _ _ refl (λ _.
     rw (ne-eqb (kindOf p) 6 h)
-    (choose isSpawn false (kindOf p) 7 _ _ refl (λ _. choose isSpawn false (kindOf p) 8 _ _ refl (λ _. refl))))))))
+    (choose isSpawn false (kindOf p) 7 _ _ refl (λ _.
+    choose isSpawn false (kindOf p) 8 _ _ refl (λ _. choose isSpawn false (kindOf p) 13 _ _ refl (λ _. refl)))))))))
 
 spawn-point : (p : List ℕ) (i next : ℕ) → isSpawn (pointAt p i next) ≡ eqb (kindOf p) 6
 unfolding pointAt
@@ -93,6 +95,7 @@ module _ (t : List ℕ) (bytes : Bytes t) (fits : check t ≡ fine) where
   halts-when (tests x l m) s q u k e = absurd (let z : _≡_ {A = ℕ} 0 1 = cc in omega arith)
   halts-when (suspends l) s q u k e = absurd (let z : _≡_ {A = ℕ} 0 1 = cc in omega arith)
   halts-when (awaits n l) s q u k e = absurd (let z : _≡_ {A = ℕ} 0 1 = cc in omega arith)
+  halts-when (guards x l) s q u k e = absurd (let z : _≡_ {A = ℕ} 0 1 = cc in omega arith)
   halts-when (spawns n p x l) s q u k e = (refl, go (limits (length q) (s .issued)) e)
     where
       go : (o : Option Limit) → spawnAt o s u n (start r p) (value (envOf s u) x) l ≡ halts k → o ≡ some k
@@ -107,6 +110,7 @@ module _ (t : List ℕ) (bytes : Bytes t) (fits : check t ≡ fine) where
   halts-then (tests x l m) s q u k e h = absurd (false≢true e)
   halts-then (suspends l) s q u k e h = absurd (false≢true e)
   halts-then (awaits n l) s q u k e h = absurd (false≢true e)
+  halts-then (guards x l) s q u k e h = absurd (false≢true e)
   halts-then (spawns n p x l) s q u k e h = rw h refl
 
   -- a limit bars the next step exactly where that is a spawn

@@ -2,7 +2,7 @@
 -- Assumes nothing.
 use Prim.Native.Nat.{ℕ, zero, suc, _+_, _*_, _≤_, _<_}
 use mathlib.Core.Path.{_≡_, refl, sym, ap, ap₂, _∙_, subst}
-use mathlib.Core.Bool.{Bool, true, _&&_, _||_, cond}
+use mathlib.Core.Bool.{Bool, true, false, _&&_, _||_, cond}
 use mathlib.Core.List.{List, [], _∷_, _++_, append-assoc, append-nil}
 use native.Mathlib.Omega.{arith}
 use mathlib.Core.Logic.{dite}
@@ -14,10 +14,10 @@ use lib.ListN.{length, getD, drop, replicate, length-append, length-drop, replic
 use lib.Seq.{drop-drop, getD-drop}
 use borrow.Author.Tests.{eq-eqb, ne-eqb, le-leb, lt-leb}
 use Rattle.rules.specs.Demand.{Bytes}
-use Rattle.rules.specs.Recipe.{Expr, constant, variable, two, one, Stmt, skip, assign, if, while, spawn, suspend, await, Body, fin, _▸_, Recipe, sizeE, sizeS, sizeB, sizeR, row, encodeE, encodeS, encodeB, encode, NamedE, NamedS, NamedB, WithinR}
+use Rattle.rules.specs.Recipe.{Expr, constant, variable, two, one, Stmt, skip, assign, if, while, spawn, suspend, await, guard, Body, fin, _▸_, Recipe, sizeE, sizeS, sizeB, sizeR, row, encodeE, encodeS, encodeB, encode, NamedE, NamedS, NamedB, WithinR}
 use Rattle.rules.specs.Table.{kindOf, inner, after, records, exprOf, fine, check, recipeOf}
-use Rattle.rules.specs.Places.{Point, nowhere, stop, skips, assigns, tests, spawns, suspends, awaits, enter, pointsS, pointsB, pointsR, at, stands, isPlace}
-use Rattle.rules.specs.Standing.{nextOf, bodyPlace, pointAt, SpawnsAt, StandsAt}
+use Rattle.rules.specs.Places.{Point, nowhere, stop, skips, assigns, tests, spawns, suspends, awaits, guards, enter, pointsS, pointsB, pointsR, at, stands, isPlace}
+use Rattle.rules.specs.Standing.{nextOf, bodyPlace, pointAt, atPlace, Opens, SpawnsAt, StandsAt}
 use Rattle.rules.specs.Grammar.{Spells}
 use Rattle.rules.proofs.Grammar.Rows.{inner-row, span-row, span-encodeE, value-row, length-encodeE, length-encodeS, length-encodeB, length-encode, stmt-pos, after-encodeE}
 use Rattle.rules.proofs.Grammar.Reading.{expr-of, number-value}
@@ -34,7 +34,7 @@ module _ (e : Expr) (y p : List ℕ) (w : NamedE e) (i : inner p ≡ encodeE e +
   behind-is : after (inner p) ≡ y
   behind-is = ap after i ∙ after-encodeE e y
 
-  spelt-there : (e : Expr) × (inner p ≡ encodeE e ++ after (inner p)) × NamedE e
+  spelt-there : Opens p
   spelt-there = (e, i ∙ ap (λ (l : List ℕ). encodeE e ++ l) (sym behind-is), w)
 
 -- where a body is entered
@@ -48,6 +48,12 @@ body-place e (s ▸ b) p i k w h =
 
 -- ---- one record
 
+low-place : (k : ℕ) → k ≤ 8 → atPlace k ≡ true
+low-place k h = rw (le-leb k 8 h) refl
+
+no-place : (k : ℕ) → 9 ≤ k → k ≤ 12 → atPlace k ≡ false
+no-place k h l = rw (lt-leb k 8 (omega arith), ne-eqb k 13 (omega arith)) refl
+
 -- the bytes from an if or a while on
 abbrev testing : ℕ → Expr → Body → List ℕ → List ℕ
 testing k e b q = row k 0 (sizeE e + sizeB b) (pos 0) ++ ((encodeE e ++ encodeB b) ++ q)
@@ -56,30 +62,32 @@ module _ (n : ℕ) where
   -- the record that p starts with, at index i, and what stands there
   record Reads (i : ℕ) (x : Point ℕ) (p : List ℕ) : Type 0 where
     is : x ≡ pointAt p i (nextOf x)
-    place : stands x ≡ leb (kindOf p) 8
+    place : stands x ≡ atPlace (kindOf p)
     shape : StandsAt n p
 
-  by-fields : (k v s i : ℕ) (z : ℤ) (q : List ℕ) (x : Point ℕ) → 1 ≤ k → k ≤ 12 → v ≤ 64 → 8 * s ≤ length q
-      → (3 ≤ k → k ≤ 6 → (e : Expr) × (inner (row k v s z ++ q) ≡ encodeE e ++ after (inner (row k v s z ++ q))) × NamedE e)
-      → (k ≡ 6 → SpawnsAt n (row k v s z ++ q)) → stands x ≡ leb k 8 → x ≡ pointAt (row k v s z ++ q) i (nextOf x) → Reads i x (row k v s z ++ q)
-  by-fields k v s i z q x some most name room starts spawned place is =
+  by-fields : (k v s i : ℕ) (z : ℤ) (q : List ℕ) (x : Point ℕ) → 1 ≤ k → k ≤ 13 → v ≤ 64 → 8 * s ≤ length q
+      → (3 ≤ k → k ≤ 6 → Opens (row k v s z ++ q)) → (k ≡ 13 → Opens (row k v s z ++ q))
+      → (k ≡ 6 → SpawnsAt n (row k v s z ++ q)) → stands x ≡ atPlace k → x ≡ pointAt (row k v s z ++ q) i (nextOf x) → Reads i x (row k v s z ++ q)
+  by-fields k v s i z q x some most name room starts guarded spawned place is =
       record {
         is = is;
         place = place;
-        shape = record { whole = omega (arith, span-row k v s z q); some-kind = some; a-kind = most; named = name; starts = starts; spawned = spawned };
+        shape = record { whole = omega (arith, span-row k v s z q); some-kind = some; a-kind = most; named = name; starts = starts; guarded = guarded; spawned = spawned };
       }
 
   -- the record of a statement that encloses an expression and y
   enclosing : (k v s i : ℕ) (z : ℤ) (q : List ℕ) (x : Point ℕ) (e : Expr) (y : List ℕ) → NamedE e → inner (row k v s z ++ q) ≡ encodeE e ++ y
-      → 3 ≤ k → k ≤ 6 → v ≤ 64 → 8 * s ≤ length q → (k ≡ 6 → SpawnsAt n (row k v s z ++ q)) → stands x ≡ true
+      → 3 ≤ k → k ≤ 13 → atPlace k ≡ true → v ≤ 64 → 8 * s ≤ length q → (k ≡ 6 → SpawnsAt n (row k v s z ++ q)) → stands x ≡ true
       → x ≡ pointAt (row k v s z ++ q) i (nextOf x) → Reads i x (row k v s z ++ q)
-  enclosing k v s i z q x e y w t a b c l f g =
-      by-fields k v s i z q x (omega arith) (omega arith) c l (λ a b. spelt-there e y (row k v s z ++ q) w t) f (g ∙ sym (le-leb k 8 (omega arith)))
+  enclosing k v s i z q x e y w t a b o c l f g =
+      let there = spelt-there e y (row k v s z ++ q) w t in
+      by-fields k v s i z q x (omega arith) b c l (λ a b. there) (λ e. there) f (g ∙ sym o)
 
   -- the record of a procedure, of an expression, or of a statement that encloses nothing
   plain : (k v s i : ℕ) (z : ℤ) (q : List ℕ) (x : Point ℕ) → 1 ≤ k → k ≤ 12 → (3 ≤ k → k ≤ 6 → ⊥) → v ≤ 64 → 8 * s ≤ length q
-      → stands x ≡ leb k 8 → x ≡ pointAt (row k v s z ++ q) i (nextOf x) → Reads i x (row k v s z ++ q)
-  plain k v s i z q x a b other c l = by-fields k v s i z q x a b c l (λ a b. absurd (other a b)) (λ e. absurd (other (omega arith) (omega arith)))
+      → stands x ≡ atPlace k → x ≡ pointAt (row k v s z ++ q) i (nextOf x) → Reads i x (row k v s z ++ q)
+  plain k v s i z q x a b other c l =
+      by-fields k v s i z q x a (omega arith) c l (λ a b. absurd (other a b)) (λ e. absurd (omega arith)) (λ e. absurd (other (omega arith) (omega arith)))
 
 -- ---- all records
 
@@ -114,7 +122,7 @@ module _ (n : ℕ) where
   gap i m k v s z xs q a b c l e h =
       let one-more : suc m ≡ 1 + m = omega arith in
       subst (λ (m : ℕ). All i (replicate m nowhere ++ xs) (row k v s z ++ q)) one-more
-      (_&_ (plain n k v s i z q nowhere (omega arith) b (omega arith) c l (sym (lt-leb k 8 (omega arith))) e) h)
+      (_&_ (plain n k v s i z q nowhere (omega arith) b (omega arith) c l (sym (no-place k (omega arith) (omega arith))) e) h)
 
   -- of a piece of a recipe at index i, if all that follows it from index j on is so
   allE : (e : Expr) (i j : ℕ) (xs : List (Point ℕ)) (q : List ℕ) → j ≡ i + sizeE e → NamedE e → All j xs q → All i (replicate (sizeE e) nowhere ++ xs) (encodeE e ++ q)
@@ -134,17 +142,17 @@ module _ (n : ℕ) where
   bare : (k v i j : ℕ) (x : Point ℕ) (xs : List (Point ℕ)) (q : List ℕ) → 1 ≤ k → k ≤ 8 → (3 ≤ k → k ≤ 6 → ⊥) → v ≤ 64 → stands x ≡ true
       → x ≡ pointAt (row k v 0 (pos 0) ++ q) i (nextOf x) → j ≡ i + 1 → All j xs q → All i (x ∷ xs) (row k v 0 (pos 0) ++ q)
   bare k v i j x xs q a b c d s f e h =
-      _&_ (plain n k v 0 i (pos 0) q x a (omega arith) c d (omega arith) (s ∙ sym (le-leb k 8 b)) f) (move j (i + 1) xs q e h)
+      _&_ (plain n k v 0 i (pos 0) q x a (omega arith) c d (omega arith) (s ∙ sym (low-place k b)) f) (move j (i + 1) xs q e h)
 
   -- a statement that encloses an expression alone
-  single : (k v i j : ℕ) (z : ℤ) (x : Point ℕ) (e : Expr) (xs : List (Point ℕ)) (q : List ℕ) → NamedE e → 3 ≤ k → k ≤ 6 → v ≤ 64
+  single : (k v i j : ℕ) (z : ℤ) (x : Point ℕ) (e : Expr) (xs : List (Point ℕ)) (q : List ℕ) → NamedE e → 3 ≤ k → k ≤ 13 → atPlace k ≡ true → v ≤ 64
       → (k ≡ 6 → SpawnsAt n (row k v (sizeE e) z ++ (encodeE e ++ q))) → stands x ≡ true
       → (exprOf (inner (row k v (sizeE e) z ++ (encodeE e ++ q))) ≡ e → x ≡ pointAt (row k v (sizeE e) z ++ (encodeE e ++ q)) i (nextOf x))
       → j ≡ i + (1 + sizeE e) → All j xs q → All i (x ∷ (replicate (sizeE e) nowhere ++ xs)) (row k v (sizeE e) z ++ (encodeE e ++ q))
-  single k v i j z x e xs q w a b d g s f l h =
+  single k v i j z x e xs q w a b o d g s f l h =
       let p = row k v (sizeE e) z ++ (encodeE e ++ q) in
       let t = inner-row k v (sizeE e) z (encodeE e ++ q) (encodeE e) q (length-encodeE e) refl ∙ sym (append-nil (encodeE e)) in
-      _&_ (enclosing n k v (sizeE e) i z (encodeE e ++ q) x e [] w t a b d (omega (arith, length-append (encodeE e) q, length-encodeE e)) g s (f (expr-is e [] p w t)))
+      _&_ (enclosing n k v (sizeE e) i z (encodeE e ++ q) x e [] w t a b o d (omega (arith, length-append (encodeE e) q, length-encodeE e)) g s (f (expr-is e [] p w t)))
       (allE e (i + 1) j xs q (omega arith) w h)
 
   -- a statement that encloses a test and a body, which m follows
@@ -161,7 +169,7 @@ module _ (n : ℕ) where
       let rest : All (i + 1) ((replicate (sizeE e) nowhere ++ pointsB b (i + 1 + sizeE e) m) ++ xs) (x ++ q) =
       simp append-assoc (allE e (i + 1) (i + 1 + sizeE e) (pointsB b (i + 1 + sizeE e) m ++ xs) (encodeB b ++ q) refl w h) in
       _&_
-      (enclosing n k 0 s i (pos 0) (x ++ q) (tests e (enter b (i + 1 + sizeE e) m) next) e (encodeB b) w t a (omega arith) (omega arith) (omega (arith, length-append x q)) (λ g. absurd (omega arith)) refl
+      (enclosing n k 0 s i (pos 0) (x ++ q) (tests e (enter b (i + 1 + sizeE e) m) next) e (encodeB b) w t a (omega arith) (low-place k (omega arith)) (omega arith) (omega (arith, length-append x q)) (λ g. absurd (omega arith)) refl
       (sym (f ∙ ap₂ (λ (y : Expr) (j : ℕ). tests y j next) (expr-is e (encodeB b) p w t) (body-place e b p i m w t))))
       rest
 
@@ -171,18 +179,21 @@ module _ (n : ℕ) where
     allS : (s : Stmt) (i j k : ℕ) (xs : List (Point ℕ)) (q : List ℕ) → j ≡ i + sizeS s → NamedS n s → All j xs q → All i (pointsS s i k ++ xs) (encodeS s ++ q)
     allS skip i j k xs q e w h = bare 2 0 i j (skips k) xs q (omega arith) (omega arith) (omega arith) (omega arith) refl refl e h
     allS (assign v x) i j k xs q e w h =
-        single 3 v i j (pos 0) (assigns v x k) x xs q (w .1) (omega arith) (omega arith) (w .0) (λ a. absurd (omega arith)) refl
+        single 3 v i j (pos 0) (assigns v x k) x xs q (w .1) (omega arith) (omega arith) refl (w .0) (λ a. absurd (omega arith)) refl
         (λ g. ap (λ (y : Expr). assigns v y k) (sym g)) e h
     allS (if x b) i j k xs q e w h = test 4 i k k x b xs q (w .0) (omega arith) (omega arith) refl (allB b (i + 1 + sizeE x) j k xs q (omega arith) (w .1) h)
     allS (while x b) i j k xs q e w h = test 5 i i k x b xs q (w .0) (omega arith) (omega arith) refl (allB b (i + 1 + sizeE x) j i xs q (omega arith) (w .1) h)
     allS (spawn v p x) i j k xs q e w h =
         let g = value-row 6 v (sizeE x) (pos p) (encodeE x ++ q) (number-value p (w .2)) in
         let m = ap natAbs g in
-        single 6 v i j (pos p) (spawns v p x k) x xs q (w .4) (omega arith) (omega arith) (w .1)
+        single 6 v i j (pos p) (spawns v p x k) x xs q (w .4) (omega arith) (omega arith) refl (w .1)
         (λ a. record { low = w .0; natural = g ∙ ap pos (sym m); small = rw m (w .2); there = rw m (w .3) }) refl
         (λ y. ap₂ (λ (a : ℕ) (y : Expr). spawns v a y k) (sym m) (sym y)) e h
     allS suspend i j k xs q e w h = bare 7 0 i j (suspends k) xs q (omega arith) (omega arith) (omega arith) (omega arith) refl refl e h
     allS (await v) i j k xs q e w h = bare 8 v i j (awaits v k) xs q (omega arith) (omega arith) (omega arith) w refl refl e h
+    allS (guard x) i j k xs q e w h =
+        single 13 0 i j (pos 0) (guards x k) x xs q w (omega arith) (omega arith) refl (omega arith) (λ a. absurd (omega arith)) refl
+        (λ g. ap (λ (y : Expr). guards y k) (sym g)) e h
 
     allB : (b : Body) (i j k : ℕ) (xs : List (Point ℕ)) (q : List ℕ) → j ≡ i + sizeB b → NamedB n b → All j xs q → All i (pointsB b i k ++ xs) (encodeB b ++ q)
     allB fin i j k xs q e w h = move j i xs q (omega arith) h
@@ -255,7 +266,7 @@ module _ (t : List ℕ) (bytes : Bytes t) (fits : check t ≡ fine) where
   at-past i h = List·getD-eq-default (pointsR (recipeOf t) 0 nowhere) nowhere (omega (arith, size, length-pointsR (recipeOf t) 0 nowhere))
 
   -- the places are the indices of statements, of procedures but the first, and the one behind the last record
-  pub is-place : (i : ℕ) → isPlace (recipeOf t) i ≡ (leb 1 i && leb i (records t) && (eqb i (records t) || leb (kindOf (drop (8 * i) t)) 8))
+  pub is-place : (i : ℕ) → isPlace (recipeOf t) i ≡ (leb 1 i && leb i (records t) && (eqb i (records t) || atPlace (kindOf (drop (8 * i) t))))
   is-place zero = ap stands at-start
   is-place (suc i) =
       let n = records t in

@@ -12,10 +12,10 @@ use lib.ListN.{length, length-append}
 use borrow.Author.Tests.{ne-eqb, leb-false}
 use Rattle.rules.specs.Values.{inRange, truth}
 use Rattle.rules.specs.Recipe.{Expr, Recipe, NamedE, Within, Env, write, value}
-use Rattle.rules.specs.Places.{Point, nowhere, stop, skips, assigns, tests, spawns, suspends, awaits, at, isPlace, start}
+use Rattle.rules.specs.Places.{Point, nowhere, stop, skips, assigns, tests, spawns, suspends, awaits, guards, at, isPlace, start}
 use Rattle.rules.specs.State.{Store, Task, State}
 use Rattle.rules.specs.Log.{Event}
-use Rattle.rules.specs.Scheduler.{Rules, Readiness, ready, waits-for, Stay, on, back, over, Limit, Act, halts, does, is, Next, finish, jam, bar, goes, readiness, anyGo, tryOf, jamOr, nextAct, stay, next, run, last}
+use Rattle.rules.specs.Scheduler.{Rules, Readiness, ready, waits-for, at-guard, at-guard, Stay, on, back, over, Limit, Act, halts, does, is, Next, finish, jam, bar, goes, readiness, anyGo, tryOf, jamOr, nextAct, stay, next, run, last}
 use Rattle.rules.specs.Steps.{Limits, limits, envOf, goTo, goWith, pastAt, moves, spawnAt, actAt, machine, recipes}
 use Rattle.rules.specs.Moments.{Call}
 use Rattle.rules.specs.Fairness.{Every, Valid, Allowed, Demand3}
@@ -50,6 +50,7 @@ module _ {A : Type 0} (see : A → Point A) (begin : ℕ → A) (full : Limits) 
   past-num (spawns n p e k) t = refl
   past-num (suspends k) t = refl
   past-num (awaits n k) t = refl
+  past-num (guards e k) t = refl
 
   -- a step that spawns nothing
   quiet : (s s′ : Store) (t : Task A) (y : Stay (Task A)) → s .issued ≡ s′ .issued → Keeps R t y → Sound R s t s′ [] y
@@ -70,6 +71,7 @@ module _ {A : Type 0} (see : A → Point A) (begin : ℕ → A) (full : Limits) 
   sound-at (spawns n p e k) s q t = sound-spawn (full (length q) (s .issued)) s t n (begin p) (value (envOf s t) e) k
   sound-at (suspends k) s q t = quiet s s t (back (goTo t k)) refl refl
   sound-at (awaits n k) s q t = quiet s s t (back t) refl refl
+  sound-at (guards e k) s q t = quiet s s t (back t) refl refl
 
   pub lawful : Lawful (machine see begin full)
   lawful = record { up-num = λ t. past-num (see (t .place)) t; acts = λ s q t. sound-at (see (t .place)) s q t }
@@ -114,6 +116,7 @@ module _ (r : Recipe) (w : Within r) where
   past-fits (spawns n p e k) h f = f
   past-fits (suspends k) h f = f
   past-fits (awaits n k) h f = moved (omega arith) f (f .parameter-fits) (h .1)
+  past-fits (guards e k) h f = moved (omega arith) f (f .parameter-fits) (h .1)
 
   -- what the acting task leaves
   abbrev StayFit : Store → Stay (Task ℕ) → Type 0
@@ -172,6 +175,7 @@ module _ (r : Recipe) (w : Within r) where
     act-fits (spawns n p e k) h = spawn-fits (limits (length q) (s .issued)) n (start r p) (value (envOf s t) e) k refl (start-place r w p (h .2)) (worked-out e (h .3)) (h .4)
     act-fits (suspends k) h = quiet-fits (back (goTo t k)) (went k h)
     act-fits (awaits n k) h = quiet-fits (back t) f
+    act-fits (guards e k) h = quiet-fits (back t) f
 
   abbrev NextFit : Next rules → Type 0
   NextFit finish = Unit {0}
@@ -183,6 +187,14 @@ module _ (r : Recipe) (w : Within r) where
   jam-fits true y h = h
   jam-fits false y h = tt
 
+  turn-fits : (s : Store) (t : Task ℕ) (q : List (Task ℕ)) → Fit r (idleC rules s (t ∷ q)) → Fit r (idleC rules s (q ++ (t ∷ [])))
+  turn-fits s t q f = record {
+    store-fits = f .store-fits;
+    few = rw length-append (omega (arith, f .few));
+    tasks-fit = every-append (TaskFit r s) q (t ∷ []) (f .tasks-fit .1) (f .tasks-fit .0, tt);
+    valid = valid-turned rules L s t q (f .valid);
+  }
+
   try-fits : (v : Readiness) (s : Store) (t : Task ℕ) (q : List (Task ℕ)) → Fit r (idleC rules s (t ∷ q)) → NextFit (tryOf rules v (idleC rules s (t ∷ q)) t q)
   try-fits ready s t q f = record {
     store-fits = f .store-fits;
@@ -190,12 +202,8 @@ module _ (r : Recipe) (w : Within r) where
     tasks-fit = (past-fits (at r (t .place)) (leads r w (t .place)) (f .tasks-fit .0), f .tasks-fit .1);
     valid = valid-took rules L s t q (f .valid);
   }
-  try-fits (waits-for z) s t q f = record {
-    store-fits = f .store-fits;
-    few = rw length-append (omega (arith, f .few));
-    tasks-fit = every-append (TaskFit r s) q (t ∷ []) (f .tasks-fit .1) (f .tasks-fit .0, tt);
-    valid = valid-turned rules L s t q (f .valid);
-  }
+  try-fits (waits-for z) s t q f = turn-fits s t q f
+  try-fits at-guard s t q f = turn-fits s t q f
 
   -- the new state, its tasks besides the acting one being these
   stay-fit : (s : Store) (q : List (Task ℕ)) (y : Stay (Task ℕ)) → StoreFit s → length q ≤ 31 → Every (TaskFit r s) q → StayFit s y → Valid rules (stay rules s q y) → Fit r (stay rules s q y)

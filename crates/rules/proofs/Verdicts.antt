@@ -1,10 +1,15 @@
 -- Tests that hold together, and verdicts that find no fault.
 -- Assumes nothing.
 use Prim.Native.Nat.{ℕ}
-use mathlib.Core.Path.{_≡_, refl}
-use mathlib.Core.Bool.{Bool, true, false, _&&_, cond, false≢true}
+use mathlib.Core.Path.{_≡_, refl, sym, _∙_}
+use mathlib.Core.Bool.{Bool, true, false, _&&_, _||_, cond, true≢false, false≢true}
 use native.Mathlib.Omega.{arith}
 use Rattle.rules.specs.Table.{Verdict, fine, fault, _else_}
+
+-- of two, one of which is false, the other
+pub or-left : (a b : Bool) → (a || b) ≡ true → b ≡ false → a ≡ true
+or-left true b h e = refl
+or-left false b h e = absurd (true≢false (sym h ∙ e))
 
 pub and-true : (a b : Bool) → (a && b) ≡ true → (a ≡ true) × (b ≡ true)
 and-true true b h = (refl, h)

@@ -79,7 +79,7 @@ standing t j = find (records t) t 0 (record { due = procedure; end = records t; 
 -- "12: a procedure, statement or expression was due and the kind is another"
 abbrev pub isDue : Due → ℕ → Bool
 isDue procedure k = eqb k 1
-isDue statement k = leb 2 k && leb k 8
+isDue statement k = leb 2 k && leb k 8 || eqb k 13
 isDue test k = leb 9 k && leb k 12
 isDue first k = leb 9 k && leb k 12
 isDue last k = leb 9 k && leb k 12

@@ -18,5 +18,6 @@ pub mod PrintRows
 pub mod Moments
 pub mod Fairness
 pub mod Demand
+pub mod Guards
 pub mod Witness
 pub mod Rest

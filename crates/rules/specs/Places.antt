@@ -4,7 +4,7 @@ use Prim.Native.Nat.{ℕ, zero, suc, _+_}
 use mathlib.Core.Bool.{Bool, true, false}
 use mathlib.Core.List.{List, [], _∷_, _++_}
 use lib.ListN.{getD, replicate}
-use Rattle.rules.specs.Recipe.{Expr, Stmt, skip, assign, if, while, spawn, suspend, await, Body, fin, _▸_, Recipe, sizeE, sizeS, sizeB}
+use Rattle.rules.specs.Recipe.{Expr, Stmt, skip, assign, if, while, spawn, suspend, await, guard, Body, fin, _▸_, Recipe, sizeE, sizeS, sizeB}
 
 -- What a task stands at, and the places where that leads: no place, the end of its procedure, or a statement. (A is what a place is:
 -- for a table its index, for document 002 the statements still to do.)
@@ -18,6 +18,7 @@ pub data Point (A : Type 0) : Type 0 where
   spawns : (name procedure : ℕ) → Expr → A → Point A
   suspends : A → Point A
   awaits : (name : ℕ) → A → Point A
+  guards : Expr → A → Point A
 
 -- where a body at index i is entered, if k follows it: "A body without statements counts as run through."
 unfoldable pub enter : Body → (i k : ℕ) → ℕ
@@ -35,6 +36,7 @@ unfoldable mutual
   pointsS (spawn n p e) i k = spawns n p e k ∷ replicate (sizeE e) nowhere
   pointsS suspend i k = suspends k ∷ []
   pointsS (await n) i k = awaits n k ∷ []
+  pointsS (guard e) i k = guards e k ∷ replicate (sizeE e) nowhere
 
   pub pointsB : Body → (i k : ℕ) → List (Point ℕ)
   pointsB fin i k = []
@@ -58,6 +60,7 @@ stands (tests e k l) = true
 stands (spawns n p e k) = true
 stands (suspends k) = true
 stands (awaits n k) = true
+stands (guards e k) = true
 
 abbrev pub isPlace : Recipe → ℕ → Bool
 isPlace r i = stands (at r i)

@@ -19,7 +19,7 @@ pub data Expr : Type 0 where
   two : (operator : ℕ) → Expr → Expr → Expr
   one : (operator : ℕ) → Expr → Expr
 
--- kinds 2 to 8; a body is a row of statements
+-- kinds 2 to 8 and 13; a body is a row of statements
 mutual
   pub data Stmt : Type 0 where
     skip : Stmt
@@ -29,6 +29,8 @@ mutual
     spawn : (name procedure : ℕ) → Expr → Stmt
     suspend : Stmt
     await : (name : ℕ) → Stmt
+    -- request 2.1 of document 02: "the guard of source document 002's Guard language"
+    guard : Expr → Stmt
 
   pub data Body : Type 0 where
     fin : Body
@@ -54,6 +56,7 @@ unfoldable mutual
   sizeS (spawn n p e) = 1 + sizeE e
   sizeS suspend = 1
   sizeS (await n) = 1
+  sizeS (guard e) = 1 + sizeE e
 
   pub sizeB : Body → ℕ
   sizeB fin = 0
@@ -84,6 +87,7 @@ unfoldable mutual
   encodeS (spawn n p e) = row 6 n (sizeE e) (pos p) ++ encodeE e
   encodeS suspend = row 7 0 0 (pos 0)
   encodeS (await n) = row 8 n 0 (pos 0)
+  encodeS (guard e) = row 13 0 (sizeE e) (pos 0) ++ encodeE e
 
   pub encodeB : Body → List ℕ
   encodeB fin = []
@@ -109,6 +113,7 @@ unfoldable mutual
   levelsS (spawn n p e) = 1 + levelsE e
   levelsS suspend = 1
   levelsS (await n) = 1
+  levelsS (guard e) = 1 + levelsE e
 
   pub levelsB : Body → ℕ
   levelsB fin = 0
@@ -130,6 +135,7 @@ unfoldable mutual
   NamedS n (spawn v p e) = (8 ≤ v) × (v ≤ 64) × (p ≤ 255) × (p < n) × NamedE e
   NamedS n suspend = Unit {0}
   NamedS n (await v) = v ≤ 64
+  NamedS n (guard e) = NamedE e
 
   pub NamedB : ℕ → Body → Type 0
   NamedB n fin = Unit {0}

@@ -4,8 +4,8 @@ use Prim.Native.Nat.{ℕ}
 use mathlib.Core.Option.{Option, none, some}
 use mathlib.Core.List.{List, [], _∷_, _++_}
 use lib.ListN.{getD, replicate}
-use Rattle.rules.specs.Recipe.{Stmt, skip, assign, if, while, spawn, suspend, await, Body, fin, _▸_, Recipe, sizeE}
-use Rattle.rules.specs.Places.{Point, stop, skips, assigns, tests, spawns, suspends, awaits}
+use Rattle.rules.specs.Recipe.{Stmt, skip, assign, if, while, spawn, suspend, await, guard, Body, fin, _▸_, Recipe, sizeE}
+use Rattle.rules.specs.Places.{Point, stop, skips, assigns, tests, spawns, suspends, awaits, guards}
 
 infixr 40 _then_
 -- one body, then another
@@ -23,6 +23,7 @@ unfoldable mutual
   restsS (spawn n p e) k = some (spawn n p e ▸ k) ∷ replicate (sizeE e) none
   restsS suspend k = some (suspend ▸ k) ∷ []
   restsS (await n) k = some (await n ▸ k) ∷ []
+  restsS (guard e) k = some (guard e ▸ k) ∷ replicate (sizeE e) none
 
   -- the same of a body that k follows
   pub restsB : Body → Body → List (Option Body)
@@ -48,3 +49,4 @@ look (while e b ▸ k) = tests e (b then (while e b ▸ k)) k
 look (spawn n p e ▸ k) = spawns n p e k
 look (suspend ▸ k) = suspends k
 look (await n ▸ k) = awaits n k
+look (guard e ▸ k) = guards e k

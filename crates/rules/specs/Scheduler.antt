@@ -5,17 +5,23 @@ use mathlib.Core.Bool.{Bool, true, false, _||_}
 use mathlib.Core.Option.{Option, none, some}
 use mathlib.Core.List.{List, [], _∷_, _++_}
 use lib.Dec.{eqb, ltb}
-use lib.IntN.{ℤ}
+use lib.IntN.{ℤ, pos}
 use Rattle.rules.specs.State.{Configuration}
 
--- "each queued task is ready, or waits with the number it waits for"
+-- "each queued task is ready, or waits with the number it waits for"; request 2.1 of document 02: or "for an untrue guard", and then for no number
 pub data Readiness : Type 0 where
   ready : Readiness
   waits-for : ℤ → Readiness
+  at-guard : Readiness
 
 abbrev pub isReady : Readiness → Bool
 isReady ready = true
 isReady (waits-for z) = false
+isReady at-guard = false
+
+-- request 2.1: "its log records carry value 0", where no number is awaited
+abbrev pub noNumber : ℤ
+noNumber = pos 0
 
 -- what becomes of the task that acted: it goes on, joins the back, or is over
 pub data Stay (Task : Type 0) : Type 0 where
@@ -42,7 +48,8 @@ pub record Rules : Type 1 where
   pub issued : Store → ℕ
   -- a queued task's readiness, from the store and from which numbers are live
   pub wait : Store → (ℕ → Bool) → Task → Readiness
-  -- the task as it becomes active ("past its await, if it stood at one"), and the two events of a try
+  -- the task as it becomes active ("past its await, if it stood at one", or past its guard), and the two events of a try, of a turn with what its
+  -- record carries
   pub up : Task → Task
   pub took : Task → Event
   pub turn : Task → ℤ → Event
@@ -85,13 +92,19 @@ module _ (R : Rules) where
     bar : Limit → Next
     goes : Option Event → Config → Next
 
-  -- "With none active, one step is a try of the front: a ready task becomes active .., another is turned to the back."
-  -- (The try of a task t with the tasks q queued besides.)
+  -- a turn of the task t to the back, with the tasks q queued besides; its record carries z
+  abbrev pub turnOf : ℤ → Config → Task → List Task → Next
+  turnOf z c t q = goes (some (turn t z)) (record { store = c .store; active = none; queue = q ++ (t ∷ []) })
+
+  -- "With none active, one step is a try of the front: a ready task becomes active .., another is turned to the back." Request 2.1: "When tried it passes
+  -- only if the expression is true then, and otherwise it is turned; its log records carry value 0." (The try of a task t with the tasks q queued besides.)
   abbrev pub tryOf : Readiness → Config → Task → List Task → Next
   tryOf ready c t q = goes (some (took t)) (record { store = c .store; active = some (up t); queue = q })
-  tryOf (waits-for z) c t q = goes (some (turn t z)) (record { store = c .store; active = none; queue = q ++ (t ∷ []) })
+  tryOf (waits-for z) c t q = turnOf z c t q
+  tryOf at-guard c t q = turnOf noNumber c t q
 
-  -- "2 stuck: none active, queue not empty, none ready"
+  -- "2 stuck: none active, queue not empty, none ready"; request 2.1: "said when every queued task waits for a number that is not done or for an untrue
+  -- guard"
   abbrev pub jamOr : Bool → Next → Next
   jamOr true x = x
   jamOr false x = jam

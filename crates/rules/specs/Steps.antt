@@ -9,10 +9,10 @@ use lib.IntN.{ℤ, pos, negsuc}
 use lib.ListN.{length}
 use Rattle.rules.specs.Values.{truth}
 use Rattle.rules.specs.Recipe.{Recipe, Env, read, write, value}
-use Rattle.rules.specs.Places.{Point, nowhere, stop, skips, assigns, tests, spawns, suspends, awaits, at, start}
+use Rattle.rules.specs.Places.{Point, nowhere, stop, skips, assigns, tests, spawns, suspends, awaits, guards, at, start}
 use Rattle.rules.specs.State.{Store, Task}
 use Rattle.rules.specs.Log.{Event, spawned, taken, gave, waits, turned, ended, valve}
-use Rattle.rules.specs.Scheduler.{Rules, Readiness, ready, waits-for, on, back, over, Limit, tasks, spent, Act, halts, does}
+use Rattle.rules.specs.Scheduler.{Rules, Readiness, ready, waits-for, at-guard, noNumber, on, back, over, Limit, tasks, spent, Act, halts, does}
 
 -- "A number is done if it has been issued and its task is not live"
 unfoldable pub isDone : (issued : ℕ) → (ℕ → Bool) → ℤ → Bool
@@ -42,7 +42,8 @@ module _ {A : Type 0} where
   abbrev pub goWith : Task A → ℤ → A → Task A
   goWith t z k = record { number = t .number; place = k; parameter = z }
 
-  -- "It waits if its next statement is an await and the variable's value now is not a done number."
+  -- "It waits if its next statement is an await and the variable's value now is not a done number." Request 2.1: at a guard "it passes only if the
+  -- expression is true then", with the waiting task's own parameter.
   abbrev pub waitAt : Point A → Store → (ℕ → Bool) → Task A → Readiness
   waitAt nowhere s live t = ready
   waitAt stop s live t = ready
@@ -52,8 +53,9 @@ module _ {A : Type 0} where
   waitAt (spawns n p e k) s live t = ready
   waitAt (suspends k) s live t = ready
   waitAt (awaits n k) s live t = cond (isDone (s .issued) live (read (envOf s t) n)) ready (waits-for (read (envOf s t) n))
+  waitAt (guards e k) s live t = cond (truth (value (envOf s t) e)) ready at-guard
 
-  -- "(past its await, if it stood at one)"
+  -- "(past its await, if it stood at one)", or past its guard
   abbrev pub pastAt : Point A → Task A → Task A
   pastAt nowhere t = t
   pastAt stop t = t
@@ -63,6 +65,7 @@ module _ {A : Type 0} where
   pastAt (spawns n p e k) t = t
   pastAt (suspends k) t = t
   pastAt (awaits n k) t = goTo t k
+  pastAt (guards e k) t = goTo t k
 
   -- the task t goes on at k with the variables and the parameter v, this number issued, these tasks new
   abbrev pub moves : ℕ → Env → Task A → A → List (Task A) → Option Event → Act Store (Task A) Event
@@ -76,7 +79,8 @@ module _ {A : Type 0} where
       (record { number = suc (s .issued); place = p; parameter = z } ∷ [])
       (some (spawned (t .number) (suc (s .issued))))
 
-  -- "With a task active, one step is": row for row. (begin: where each procedure starts. No accepted state has a task at no place.)
+  -- "With a task active, one step is": row for row. Request 2.1: "A task reaching it joins the back like an await." (begin: where each procedure starts. No
+  -- accepted state has a task at no place.)
   abbrev pub actAt : (ℕ → A) → Limits → Point A → Store → List (Task A) → Task A → Act Store (Task A) Event
   actAt begin full nowhere s q t = does s [] over (some (ended (t .number)))
   actAt begin full (skips k) s q t = does s [] (on (goTo t k)) none
@@ -86,6 +90,7 @@ module _ {A : Type 0} where
   actAt begin full (spawns n p e k) s q t = spawnAt (full (length q) (s .issued)) s t n (begin p) (value (envOf s t) e) k
   actAt begin full (suspends k) s q t = does s [] (back (goTo t k)) (some (gave (t .number)))
   actAt begin full (awaits n k) s q t = does s [] (back t) (some (waits (t .number) (read (envOf s t) n)))
+  actAt begin full (guards e k) s q t = does s [] (back t) (some (waits (t .number) noNumber))
   actAt begin full stop s q t = does s [] over (some (ended (t .number)))
 
   -- by what stands at a place, where a procedure starts, and the limits

@@ -1,7 +1,7 @@
 -- Document 01, "The recipe table" and the numbers 11 to 17: which tables are accepted, and what an accepted one spells.
 -- Assumes nothing.
 use Prim.Native.Nat.{ℕ, zero, suc, _+_, _*_, _/_, _%_}
-use mathlib.Core.Bool.{Bool, true, _&&_, cond}
+use mathlib.Core.Bool.{Bool, true, _&&_, _||_, cond}
 use mathlib.Core.List.{List, [], _∷_}
 use lib.Dec.{eqb, leb, ltb}
 use lib.IntN.{ℤ, pos, natAbs}
@@ -9,7 +9,7 @@ use lib.ListN.{length, getD, take, drop}
 use lib.Signed.{leZ}
 use Rattle.rules.specs.Fields.{half, word, signed}
 use Rattle.rules.specs.Values.{isZero}
-use Rattle.rules.specs.Recipe.{Expr, constant, variable, two, one, Stmt, skip, assign, if, while, spawn, suspend, await, Body, fin, _▸_, Recipe}
+use Rattle.rules.specs.Recipe.{Expr, constant, variable, two, one, Stmt, skip, assign, if, while, spawn, suspend, await, guard, Body, fin, _▸_, Recipe}
 
 infixr 20 _else_
 -- The fields of the record at the start of a part.
@@ -66,6 +66,7 @@ kinds =
     ∷ kind 0 64 nothing unused  -- 10 variable read
     ∷ kind 0 7 two-expressions unused  -- 11 two operands
     ∷ kind 0 1 one-expression unused  -- 12 one operand
+    ∷ kind 0 0 one-expression unused  -- 13 guard; request 2.1: "kind 13, name 0, value 0, enclosing one expression"
     ∷ []
 
 abbrev pub kindRow : ℕ → Kind
@@ -77,7 +78,7 @@ pub data Sort : Type 0 where
 
 abbrev pub isOf : Sort → ℕ → Bool
 isOf procedure k = eqb k 1
-isOf statement k = leb 2 k && leb k 8
+isOf statement k = leb 2 k && leb k 8 || eqb k 13
 isOf expression k = leb 9 k && leb k 12
 
 -- Where what a record encloses must end, the record's part being what its own encloser leaves: at the end ("as sole or last operand"),
@@ -90,7 +91,7 @@ endsFit at-end e l = eqb e l
 endsFit before-end e l = ltb e l
 endsFit within e l = leb e l
 
--- "not 0 where nothing is enclosed; under 1 (kinds 3–6, 12) or 2 (kind 11)" are faults
+-- "not 0 where nothing is enclosed; under 1 (kinds 3–6, 12) or 2 (kind 11)" are faults; request 2.1: a guard has "the span rules of kind 3"
 abbrev pub spanFits : Encloses → ℕ → Bool
 spanFits nothing s = eqb s 0
 spanFits statements s = true
@@ -225,7 +226,8 @@ stmtOf body p =
     let e = exprOf (inner p) in
     let b = body (after (inner p)) in
     let tests = cond (eqb (kindOf p) 4) (if e b) (while e b) in
-    let others = cond (eqb (kindOf p) 6) (spawn (nameOf p) (natAbs (valueOf p)) e) (cond (eqb (kindOf p) 7) suspend (await (nameOf p))) in
+    let waits = cond (eqb (kindOf p) 8) (await (nameOf p)) (guard e) in
+    let others = cond (eqb (kindOf p) 6) (spawn (nameOf p) (natAbs (valueOf p)) e) (cond (eqb (kindOf p) 7) suspend waits) in
     let more = cond (leb (kindOf p) 5) tests others in
     cond (eqb (kindOf p) 2) skip (cond (eqb (kindOf p) 3) (assign (nameOf p) e) more)
 

@@ -242,6 +242,71 @@ readings =
     ∷ within 5 800 (noBody 5 (minus 1)) 1 5
     ∷ []
 
+-- ---- guards
+
+-- a procedure of these statements; expressions of one record and of two
+abbrev pub procedureOf : List ℕ → List ℕ
+procedureOf l = row 1 0 (length l / 8) (pos 0) ++ l
+
+abbrev pub zero9 : List ℕ
+zero9 = row 9 0 0 (pos 0)
+
+abbrev pub one9 : List ℕ
+one9 = row 9 0 0 (pos 1)
+
+abbrev pub not9 : List ℕ
+not9 = row 12 1 1 (pos 0) ++ zero9
+
+-- a guard of this expression; main spawns procedure 1 into variable 8
+abbrev pub guardOn : List ℕ → List ℕ
+guardOn e = row 13 0 (length e / 8) (pos 0) ++ e
+
+abbrev pub spawns8 : List ℕ
+spawns8 = row 6 8 1 (pos 1) ++ zero9
+
+-- Another task sets the guard's variable after two turns; to 0, though the guard was true when it was reached.
+abbrev pub guardLater : List ℕ
+guardLater = procedureOf (spawns8 ++ guardOn (row 10 9 0 (pos 0))) ++ procedureOf (row 7 0 0 (pos 0) ++ row 7 0 0 (pos 0) ++ row 3 9 1 (pos 0) ++ one9)
+
+abbrev pub guardLost : List ℕ
+guardLost = procedureOf (row 3 9 1 (pos 0) ++ one9 ++ spawns8 ++ guardOn (row 10 9 0 (pos 0))) ++ procedureOf (row 3 9 1 (pos 0) ++ zero9)
+
+-- two tasks at a guard over their own parameter, 0 and 5
+abbrev pub guardOwn : List ℕ
+guardOwn = procedureOf (spawns8 ++ row 6 9 1 (pos 1) ++ row 9 0 0 (pos 5)) ++ procedureOf (guardOn (row 10 64 0 (pos 0)))
+
+-- Main awaits a task at a guard of variable 9, which main sets to 1 before or behind its await.
+abbrev pub guardOf9 : List ℕ
+guardOf9 = procedureOf (guardOn (row 10 9 0 (pos 0)))
+
+abbrev pub set9 : List ℕ
+set9 = row 3 9 1 (pos 0) ++ one9
+
+abbrev pub guarded : List Row
+guarded =
+    -- true when it is reached, alone and with another task queued: it joins the back
+    run (procedureOf (guardOn one9)) 0 3 (some (row 4 0 1 (pos 0) ++ row 2 0 1 (pos 0) ++ row 6 0 1 (pos 0)))
+    ∷ run (procedureOf (spawns8 ++ guardOn one9) ++ rowE) 0 6
+    (some (row 1 0 1 (pos 2) ++ row 4 0 1 (pos 0) ++ row 2 0 2 (pos 0) ++ row 6 0 2 (pos 0) ++ row 2 0 1 (pos 0) ++ row 6 0 1 (pos 0)))
+    -- turned twice, then passed; any value but 0 is true
+    ∷ run guardLater 0 13
+    (some (row 1 0 1 (pos 2) ++ row 4 0 1 (pos 0) ++ row 2 0 2 (pos 0) ++ row 3 0 2 (pos 0) ++ row 5 0 1 (pos 0) ++ row 2 0 2 (pos 0) ++ row 3 0 2 (pos 0) ++ row 5 0 1 (pos 0)
+    ++ row 2 0 2 (pos 0) ++ row 6 0 2 (pos 0) ++ row 2 0 1 (pos 0) ++ row 6 0 1 (pos 0)))
+    ∷ run (procedureOf (guardOn (row 9 0 0 (minus 2)))) 0 3 (some (row 4 0 1 (pos 0) ++ row 2 0 1 (pos 0) ++ row 6 0 1 (pos 0)))
+    -- it is true or not when it is tried
+    ∷ run guardLost 2 6 (some (row 1 0 1 (pos 2) ++ row 4 0 1 (pos 0) ++ row 2 0 2 (pos 0) ++ row 6 0 2 (pos 0)))
+    ∷ run guardOwn 2 6 (some (row 1 0 1 (pos 2) ++ row 1 0 1 (pos 3) ++ row 6 0 1 (pos 0) ++ row 5 0 2 (pos 0) ++ row 2 0 3 (pos 0) ++ row 6 0 3 (pos 0)))
+    -- all at untrue guards; an await of a task at a guard that would be true behind the await; the same, true before it
+    ∷ run (procedureOf (spawns8 ++ guardOn zero9) ++ guardOf9) 2 2 (some (row 1 0 1 (pos 2) ++ row 4 0 1 (pos 0)))
+    ∷ run (procedureOf (spawns8 ++ row 8 8 0 (pos 0) ++ set9) ++ guardOf9) 2 2 (some (row 1 0 1 (pos 2) ++ row 4 0 1 (pos 2)))
+    ∷ run (procedureOf (spawns8 ++ set9 ++ row 8 8 0 (pos 0)) ++ guardOf9) 0 7
+    (some (row 1 0 1 (pos 2) ++ row 4 0 1 (pos 2) ++ row 2 0 2 (pos 0) ++ row 6 0 2 (pos 0) ++ row 2 0 1 (pos 0) ++ row 6 0 1 (pos 0)))
+    -- behind the guard's expression; at the end of a while's body, where the while is next
+    ∷ run (procedureOf (guardOn not9 ++ row 3 0 1 (pos 0) ++ row 9 0 0 (pos 5))) 0 4
+    (some (row 4 0 1 (pos 0) ++ row 2 0 1 (pos 0) ++ row 7 0 1 (pos 5) ++ row 6 0 1 (pos 0)))
+    ∷ within 5 800 (procedureOf (row 5 0 3 (pos 0) ++ one9 ++ guardOn one9)) 1 5
+    ∷ []
+
 -- ---- tables at fault
 
 -- so many negations, one in the other, around what follows
@@ -284,6 +349,8 @@ faults =
     ∷ refused (deep 15 (row 9 0 1 (pos 3))) 13 17
     ∷ refused (deep 15 (row 10 0 0 (pos 3))) 15 17
     ∷ refused (deep 15 (row 2 0 0 (pos 0))) 12 17
+    ∷ run (procedureOf (guardOn (nested 14 one9))) 0 3 none
+    ∷ refused (procedureOf (guardOn (nested 15 one9))) 16 17
     ∷ run (row 1 0 30 (pos 0) ++ ifs 15) 0 16 none
     ∷ refused (row 1 0 32 (pos 0) ++ ifs 16) 16 32
     -- 17 at the earliest spawn, and only when all records pass
@@ -293,19 +360,9 @@ faults =
     ∷ refused (row 1 0 4 (pos 0) ++ row 6 8 1 (pos 1) ++ row 9 0 0 (pos 0) ++ row 3 65 1 (pos 0) ++ row 9 0 0 (pos 0)) 14 3
     ∷ []
 
--- a procedure of these statements; a set of valve 0 to this expression, whose first record has index 2
-abbrev pub procedureOf : List ℕ → List ℕ
-procedureOf l = row 1 0 (length l / 8) (pos 0) ++ l
-
+-- a set of valve 0 to this expression, whose first record has index 2
 abbrev pub setTo : List ℕ → List ℕ
 setTo l = procedureOf (row 3 0 (length l / 8) (pos 0) ++ l)
-
--- expressions of one record and of two
-abbrev pub zero9 : List ℕ
-zero9 = row 9 0 0 (pos 0)
-
-abbrev pub not9 : List ℕ
-not9 = row 12 1 1 (pos 0) ++ zero9
 
 -- each of the tables is refused with this number and place
 abbrev pub each : ℕ → ℕ → List (List ℕ) → List Row
@@ -318,28 +375,29 @@ columns =
     each 14 0 (row 1 1 0 (pos 0) ∷ [])
     ++ each 14 1
     (procedureOf (row 2 1 0 (pos 0)) ∷ procedureOf (row 3 65 1 (pos 0) ++ zero9) ∷ procedureOf (row 4 1 1 (pos 0) ++ zero9) ∷ procedureOf (row 5 1 1 (pos 0) ++ zero9)
-    ∷ procedureOf (row 6 65 1 (pos 0) ++ zero9) ∷ procedureOf (row 7 1 0 (pos 0)) ∷ procedureOf (row 8 65 0 (pos 0)) ∷ [])
+    ∷ procedureOf (row 6 65 1 (pos 0) ++ zero9) ∷ procedureOf (row 7 1 0 (pos 0)) ∷ procedureOf (row 8 65 0 (pos 0)) ∷ procedureOf (row 13 1 1 (pos 0) ++ zero9) ∷ [])
     ++ each 14 2 (setTo (row 9 1 0 (pos 0)) ∷ setTo (row 10 65 0 (pos 0)) ∷ setTo (row 11 8 2 (pos 0) ++ zero9 ++ zero9) ∷ setTo (row 12 2 1 (pos 0) ++ zero9) ∷ [])
     ++ each 15 0 (row 1 0 0 (pos 1) ∷ [])
     ++ each 15 1
     (procedureOf (row 2 0 0 (pos 1)) ∷ procedureOf (row 3 0 1 (minus 1) ++ zero9) ∷ procedureOf (row 4 0 1 (pos 1) ++ zero9) ∷ procedureOf (row 5 0 1 (pos 1) ++ zero9)
-    ∷ procedureOf (row 7 0 0 (pos 1)) ∷ procedureOf (row 8 0 0 lowest) ∷ [])
+    ∷ procedureOf (row 7 0 0 (pos 1)) ∷ procedureOf (row 8 0 0 lowest) ∷ procedureOf (row 13 0 1 (pos 1) ++ zero9) ∷ [])
     ++ each 15 2 (setTo (row 10 0 0 (pos 1)) ∷ setTo (row 11 0 2 (pos 1) ++ zero9 ++ zero9) ∷ setTo (row 12 0 1 (pos 1) ++ zero9) ∷ [])
     ++ each 13 1
     (procedureOf (row 2 0 1 (pos 0) ++ zero9) ∷ procedureOf (row 7 0 1 (pos 0) ++ zero9) ∷ procedureOf (row 8 0 1 (pos 0) ++ zero9) ∷ procedureOf (row 3 0 0 (pos 0))
-    ∷ procedureOf (row 4 0 0 (pos 0)) ∷ procedureOf (row 5 0 0 (pos 0)) ∷ procedureOf (row 6 8 0 (pos 0)) ∷ procedureOf (row 3 0 2 (pos 0) ++ zero9) ∷ [])
+    ∷ procedureOf (row 4 0 0 (pos 0)) ∷ procedureOf (row 5 0 0 (pos 0)) ∷ procedureOf (row 6 8 0 (pos 0)) ∷ procedureOf (row 3 0 2 (pos 0) ++ zero9)
+    ∷ procedureOf (row 13 0 0 (pos 0)) ∷ procedureOf (row 13 0 2 (pos 0) ++ zero9) ∷ [])
     ++ each 13 2
     (setTo (row 9 0 1 (pos 0) ++ zero9) ∷ setTo (row 10 0 1 (pos 0) ++ zero9) ∷ setTo (row 11 0 0 (pos 0)) ∷ setTo (row 12 0 0 (pos 0)) ∷ setTo (row 12 0 2 (pos 0) ++ zero9) ∷ [])
-    -- the operand of a spawn, of one operator and of two that stops short
-    ++ each 13 2 (procedureOf (row 6 8 2 (pos 0) ++ zero9 ++ zero9) ∷ [])
+    -- the operand of a spawn, of a guard, of one operator and of two that stops short
+    ++ each 13 2 (procedureOf (row 6 8 2 (pos 0) ++ zero9 ++ zero9) ∷ procedureOf (row 13 0 2 (pos 0) ++ zero9 ++ zero9) ∷ [])
     ++ each 13 3 (setTo (row 12 0 2 (pos 0) ++ zero9 ++ zero9) ∷ [])
     ++ each 13 4 (setTo (row 11 0 3 (pos 0) ++ zero9 ++ zero9 ++ zero9) ∷ [])
     -- what stands behind an expression of two records: a statement, the body of an if, a second operand
     ++ each 12 4 (procedureOf (row 3 0 2 (pos 0) ++ not9 ++ zero9) ∷ procedureOf (row 4 0 3 (pos 0) ++ not9 ++ zero9) ∷ [])
     ++ each 12 5 (setTo (row 11 0 3 (pos 0) ++ not9 ++ row 2 0 0 (pos 0)) ∷ [])
-    ++ each 12 0 (row 0 0 0 (pos 0) ∷ row 2 0 0 (pos 0) ∷ [])
-    ++ each 12 1 (procedureOf (row 0 0 0 (pos 0)) ∷ procedureOf (row 1 0 0 (pos 0)) ∷ procedureOf (row 13 0 0 (pos 0)) ∷ [])
-    ++ each 12 2 (setTo (row 8 0 0 (pos 0)) ∷ setTo (row 13 0 0 (pos 0)) ∷ [])
+    ++ each 12 0 (row 0 0 0 (pos 0) ∷ row 2 0 0 (pos 0) ∷ guardOn zero9 ∷ [])
+    ++ each 12 1 (procedureOf (row 0 0 0 (pos 0)) ∷ procedureOf (row 1 0 0 (pos 0)) ∷ procedureOf (row 14 0 0 (pos 0)) ∷ [])
+    ++ each 12 2 (setTo (row 8 0 0 (pos 0)) ∷ setTo (guardOn zero9) ∷ setTo (row 14 0 0 (pos 0)) ∷ procedureOf (guardOn (row 2 0 0 (pos 0))) ∷ [])
     ++ each 17 1 (procedureOf (row 6 8 1 (pos 255) ++ zero9) ∷ [])
     -- the last name of a wait; a skip and a suspend as the first place
     ++ run (procedureOf (row 8 64 0 (pos 0))) 2 1 (some (row 4 0 1 (pos 0)))
@@ -410,13 +468,18 @@ blocks =
     -- "Table first"
     ∷ from (blockOf 0 0 0 []) (refused (row 9 0 5 (pos 0)) 12 0)
     ∷ from [] (refused (row 9 0 5 (pos 0)) 12 0)
-    -- every field of a block, read and written: two steps of the active task; a front taken up; a front turned; a task spawned; one that ends
+    -- at a guard a task stands, at its expression none
+    ∷ from (blockOf 9 2 0 (crowd 1 ++ task 2 2 (pos 0))) (refused (procedureOf (guardOn one9)) 22 2)
+    -- every field of a block, read and written: two steps of the active task; a front taken up; a front turned, at an await and at a guard; a task spawned;
+    -- one that ends
     ∷ from (blockWith 300 1 (task 3 1 (minus 9)) (task 270 5 (pos 4)) before)
     (logs (row 7 1 3 (minus 9) ++ row 7 2 3 (minus 2)) (leaves (blockWith 300 1 (task 3 5 (minus 9)) (task 270 5 (pos 4)) behind) (within 2 800 readBack 1 2)))
     ∷ from (blockWith 300 0 (task 270 1 (minus 9)) (task 3 5 (pos 4)) before)
     (logs (row 2 0 270 (pos 0)) (leaves (blockWith 300 1 (task 270 1 (minus 9)) (task 3 5 (pos 4)) before) (within 1 800 readBack 1 1)))
     ∷ from (blockWith 300 0 (task 270 1 (minus 9)) (task 3 2 (pos 4)) before)
     (logs (row 5 0 270 (pos 3)) (leaves (blockWith 300 0 (task 3 2 (pos 4)) (task 270 1 (minus 9)) before) (within 1 800 rowC 1 1)))
+    ∷ from (blockWith 300 0 (task 270 1 (minus 9)) (task 3 3 (pos 4)) before)
+    (logs (row 5 0 270 (pos 0)) (leaves (blockWith 300 0 (task 3 3 (pos 4)) (task 270 1 (minus 9)) before) (within 1 800 (procedureOf (guardOn (row 10 1 0 (pos 0)))) 1 1)))
     ∷ from (blockOf 300 1 1 (task 3 1 (minus 9)))
     (leaves (blockWith 301 1 (task 3 3 (minus 9)) (task 301 4 (pos 0)) (replicate 8 (pos 0) ++ pos 301 ∷ replicate 55 (pos 0))) (within 1 800 spawnOne 1 1))
     ∷ from (blockWith 300 1 (task 3 5 (minus 9)) (task 270 1 (pos 4)) before)
@@ -442,7 +505,7 @@ blocks =
     ∷ []
 
 abbrev pub rows : List Row
-rows = starred ++ operators ++ readings ++ faults ++ columns ++ blocks
+rows = starred ++ operators ++ readings ++ guarded ++ faults ++ columns ++ blocks
 
 -- ---- start
 

@@ -4,7 +4,7 @@ use Prim.Native.Nat.{ℕ, zero, suc, _+_, _*_, _/_, _%_, _^_, _<_}
 use mathlib.Core.Path.{_≡_, refl, sym, ap, _∙_}
 use mathlib.Core.Bool.{Bool, true, false, _&&_, _||_}
 use native.Mathlib.Omega.{arith}
-use native.Mathlib.Decide.{decLt, decLe}
+use native.Mathlib.Decide.{decLt, decLe, ℕ-discrete}
 use mathlib.Core.Logic.{dite, ⊎-elim}
 use native.Mathlib.Nat.{eq-or-lt-of-le}
 use lib.Dec.{eqb, leb}
@@ -13,7 +13,7 @@ use lib.ListN.{length, getD, List·getD-map}
 use borrow.Author.Tests.{eq-eqb, ne-eqb, le-leb, lt-leb, lt-ltb, le-ltb, leb-true, eqb-true}
 use Rattle.rules.specs.Fields.{word, signed}
 use Rattle.rules.specs.Table.{Encloses, nothing, statements, one-expression, expression-statements, two-expressions, Field, unused, procedure-number, any, kind, kinds, kindRow, Sort, procedure, statement, expression, isOf, Ends, endsFit, spanFits, valueFits, kindOf, nameOf, spanOf, spanRight, nameRight, valueRight, recordFault}
-use Rattle.rules.proofs.Verdicts.{and-true}
+use Rattle.rules.proofs.Verdicts.{and-true, or-left}
 use Rattle.table.specs.Check.{mostWord, nameLeasts, nameMosts, codeOf, codes, valueMosts}
 
 -- a column's entry is its row's
@@ -49,8 +49,8 @@ pub elsewhere : (column kinds : List ℕ) (n : ℕ) → every (λ k. member k ki
 elsewhere column kinds n h k l m = eqb-true _ _ (rw m at (at-each (λ k. member k kinds || eqb (getD column k 0) 0) n h k l))
 
 -- the codes as one number, four bits for each kind
-pub packed : (k : ℕ) → k < 13 → 633318734503952 / 2 ^ (4 * k) % 16 ≡ getD codes k 0
-packed k l = eqb-true _ _ (at-each (λ k. eqb (633318734503952 / 2 ^ (4 * k) % 16) (getD codes k 0)) 13 refl k l)
+pub packed : (k : ℕ) → k < 14 → 9640517989244944 / 2 ^ (4 * k) % 16 ≡ getD codes k 0
+packed k l = eqb-true _ _ (at-each (λ k. eqb (9640517989244944 / 2 ^ (4 * k) % 16) (getD codes k 0)) 14 refl k l)
 
 -- the spans that a row allows, by its code
 pub span-none : (x : Encloses) (s : ℕ) → codeOf x ≡ 0 → eqb s 0 ≡ spanFits x s
@@ -87,9 +87,10 @@ pub value-column : (k w : ℕ) → w < 4294967296 → valueFits (kindRow k .fiel
 value-column k w h = value-bounds (kindRow k .field) w h ∙ ap (leb w) (sym (value-most k))
 
 -- a kind that is due is in the table of kinds
-pub due-kind : (s : Sort) (k : ℕ) → isOf s k ≡ true → k < 13
+pub due-kind : (s : Sort) (k : ℕ) → isOf s k ≡ true → k < 14
 due-kind procedure k h = omega (arith, eqb-true k 1 h)
-due-kind statement k h = let a = and-true (leb 2 k) (leb k 8) h in omega (arith, leb-true k 8 (a .1))
+due-kind statement k h =
+    dite (ℕ-discrete k 13) (λ e. omega arith) (λ n. let a = and-true (leb 2 k) (leb k 8) (or-left (leb 2 k && leb k 8) (eqb k 13) h (ne-eqb k 13 n)) in omega (arith, leb-true k 8 (a .1)))
 due-kind expression k h = let a = and-true (leb 9 k) (leb k 12) h in omega (arith, leb-true k 12 (a .1))
 
 -- ---- the rules, by what the code looks up

@@ -2,7 +2,7 @@
 -- Assumes nothing.
 use Prim.Native.Nat.{ℕ, zero, suc, _+_, _-_, _*_, _≤_, _<_}
 use mathlib.Core.Path.{_≡_, refl, sym, ap, _∙_}
-use mathlib.Core.Bool.{true}
+use mathlib.Core.Bool.{true, not, _||_}
 use mathlib.Core.List.{List, []}
 use native.Mathlib.Omega.{arith}
 use native.Mathlib.Numerals.{sub-one}
@@ -13,21 +13,19 @@ use lib.Seq.{drop-drop}
 use borrow.Author.Tests.{leb-true, eqb-true}
 use Rattle.rules.specs.Table as T
 use Rattle.rules.specs.Table.{Encloses, nothing, one-expression, expression-statements, two-expressions, kindOf, spanOf, inner, after, kindRow, isOf, Sort, Ends, at-end, within, recordFault, Verdict, fine, fault, _else_, enclosed, checkE, checkRows}
-use Rattle.rules.proofs.Verdicts.{and-true}
 use Rattle.rules.proofs.Grammar.Checking.{Right, right, right-whole, right-span, inside, row-empty, row-fault, row-deep, row-step, length-inner, length-after}
 use Rattle.rules.proofs.Grammar.Accepting.{right-of}
 use Rattle.table.specs.Check.{Row, Part, Parted, OfRow, procedures, statements, codeOf, enclosing, exprInside, headOf, bodyPart, bodyIndex, body, bodyAt}
-use Rattle.table.proofs.Columns.{at-each, due-kind, span-none, span-some}
+use Rattle.table.proofs.Columns.{every, at-each, due-kind, span-none, span-some}
 use Rattle.table.proofs.Expressions.{level-own, level-none, level-below}
 
--- the kinds of a row are 1 to 8
-pub row-kind : {s : Sort} → OfRow s → (k : ℕ) → isOf s k ≡ true → (1 ≤ k) × (k ≤ 8)
-row-kind procedures k h = let e = eqb-true k 1 h in (omega arith, omega arith)
-row-kind statements k h = let a = and-true (leb 2 k) (leb k 8) h in (omega (arith, leb-true 2 k (a .0)), leb-true k 8 (a .1))
+-- no record of a row encloses two expressions
+row-codes : {s : Sort} → OfRow s → every (λ k. not (isOf s k) || leb (codeOf (kindRow k .encloses)) 3) 14 ≡ true
+row-codes procedures = refl
+row-codes statements = refl
 
--- none of them encloses two expressions
-row-code : (k : ℕ) → k ≤ 8 → codeOf (kindRow k .encloses) ≤ 3
-row-code k h = leb-true _ 3 (at-each (λ k. leb (codeOf (kindRow k .encloses)) 3) 9 refl k (omega arith))
+row-code : {s : Sort} → OfRow s → (k : ℕ) → isOf s k ≡ true → codeOf (kindRow k .encloses) ≤ 3
+row-code {s} o k h = leb-true _ 3 (rw h at (at-each (λ k. not (isOf s k) || leb (codeOf (kindRow k .encloses)) 3) 14 (row-codes o) k (due-kind s k h)))
 
 -- what a record encloses is its expression, then its statements
 split : (x : Encloses) (d i : ℕ) (p : List ℕ) → codeOf x ≤ 3
@@ -145,7 +143,7 @@ leaf-span {p = p} g h = eqb-true (spanOf p) 0 (span-none (enclosing p) (spanOf p
 -- ---- a row, by its first record
 
 pub row-enclosing : {s : Sort} {p : List ℕ} → OfRow s → Right s within p → codeOf (enclosing p) ≤ 3
-row-enclosing {p = p} o g = row-code (kindOf p) (row-kind o (kindOf p) (g .due) .1)
+row-enclosing {p = p} o g = row-code o (kindOf p) (g .due)
 
 pub row-first : (s : Sort) (d i : ℕ) (p : List ℕ) → OfRow s → ¬ (length p ≡ 0)
     → checkRows s d i p ≡ (headOf s d i p else (checkRows T.statement (d - 1) (bodyAt i p) (body p) else checkRows s d (i + 1 + spanOf p) (after p)))

@@ -89,7 +89,7 @@ enclosing p = kindRow (kindOf p) .encloses
 
 -- the first record of a part is whole, and so is the expression of one that encloses an expression and statements
 pub record Parted (p : List ℕ) : Type 0 where
-  pub kind : kindOf p < 13
+  pub kind : kindOf p < 14
   pub whole : 8 + 8 * spanOf p ≤ length p
   pub tested : enclosing p ≡ expression-statements → 8 + 8 * spanOf (inner p) ≤ length (inner p)
 

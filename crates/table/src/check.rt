@@ -11,7 +11,7 @@ ghost use mathlib.Core.List.{List};
 ghost use lib.Dec.{leb};
 ghost use Prim.Native.Nat.{ℕ, _+_, _*_, _≤_, _<_};
 ghost use lib.ListN.{length, getD};
-ghost use Rattle.rules.specs.Table.{expression, within, kindOf, nameOf, spanOf, isOf, endsFit, spanRight, nameRight, valueRight, recordFault, checkE, checkRows, checkSpawns, namesNone, procedures, records, lengthFits, fault, check};
+ghost use Rattle.rules.specs.Table.{statement, expression, within, kindOf, nameOf, spanOf, isOf, endsFit, spanRight, nameRight, valueRight, recordFault, checkE, checkRows, checkSpawns, namesNone, procedures, records, lengthFits, fault, check};
 ghost use Rattle.rules.specs.Fields.{signed, word};
 ghost use lib.IntN.{natAbs};
 ghost use Rattle.table.specs.Check.{nameLeasts, nameMosts, codeOf, codes, enclosing, valueMosts, sortOf, endsOf, verdictOf, verdictIn, Fields, Part, Row, OfRow, headOf, body, bodyAt, Parted};
@@ -38,7 +38,7 @@ pub enum Ends {
 
 // The columns of the table of kinds, by kind.
 fn name_least(kind: usize) -> u8
-    requires { ⌜ kind < 13 ⌝ }
+    requires { ⌜ kind < 14 ⌝ }
     ensures { λ r. ⌜ r ≡ getD nameLeasts kind 0 ⌝ }
 {
     if kind == 6 {
@@ -48,7 +48,7 @@ fn name_least(kind: usize) -> u8
 }
 
 fn name_most(kind: usize) -> u8
-    requires { ⌜ kind < 13 ⌝ }
+    requires { ⌜ kind < 14 ⌝ }
     ensures { λ r. ⌜ r ≡ getD nameMosts kind 0 ⌝ }
 {
     if kind == 3 {
@@ -73,7 +73,7 @@ fn name_most(kind: usize) -> u8
 }
 
 fn value_most(kind: usize) -> u32
-    requires { ⌜ kind < 13 ⌝ }
+    requires { ⌜ kind < 14 ⌝ }
     ensures { λ r. ⌜ r ≡ getD valueMosts kind 0 ⌝ }
 {
     if kind == 6 {
@@ -88,15 +88,15 @@ fn value_most(kind: usize) -> u32
 // What a kind encloses: 0 nothing, 1 statements, 2 an expression, 3 an expression and then statements, 4 two expressions.
 // Four bits for each kind in one number: a chain of tests would be compiled to a jump.
 fn code(kind: usize) -> u8
-    requires { ⌜ kind < 13 ⌝ }
+    requires { ⌜ kind < 14 ⌝ }
     ensures { λ r. ⌜ r ≡ getD codes kind 0 ⌝ }
 {
-    ((0x2400002332010u64 >> (4 * kind)) % 16) as u8
+    ((0x22400002332010u64 >> (4 * kind)) % 16) as u8
 }
 
 // What the first record of a part encloses.
 fn encloses(part: &[u8]) -> u8
-    requires { ⌜ (8 ≤ length (now part)) × (kindOf (now part) < 13) ⌝ }
+    requires { ⌜ (8 ≤ length (now part)) × (kindOf (now part) < 14) ⌝ }
     ensures { λ r. ⌜ r ≡ codeOf (enclosing (now (part .entry))) ⌝ }
 {
     code(wide(part[0]))
@@ -111,12 +111,22 @@ fn between(x: u8, low: u8, high: u8) -> bool
     x <= high
 }
 
+// Kinds 2 to 8 first: most statements are of these.
+fn is_statement(kind: u8) -> bool
+    ensures { λ r. ⌜ r ≡ isOf statement kind ⌝ }
+{
+    if between(kind, 2, 8) {
+        return true;
+    }
+    kind == 13
+}
+
 fn is_of(sort: Sort, kind: u8) -> bool
     ensures { λ r. ⌜ r ≡ isOf (sortOf sort) kind ⌝ }
 {
     match sort {
         Sort::Procedure => kind == 1,
-        Sort::Statement => between(kind, 2, 8),
+        Sort::Statement => is_statement(kind),
         Sort::Expression => between(kind, 9, 12),
     }
 }
@@ -133,7 +143,7 @@ fn ends_fit(ends: Ends, end: usize, len: usize) -> bool
 
 // Rule 13 of a record, by its fields and the length of its part.
 fn span_right(kind: usize, span: usize, len: usize, ends: Ends) -> bool
-    requires { ⌜ (kind < 13) × (span < 65536) ⌝ }
+    requires { ⌜ (kind < 14) × (span < 65536) ⌝ }
     ensures { λ r. ⌜ ((p : List ℕ) → kind ≡ kindOf p → span ≡ spanOf p → len ≡ length p → r ≡ spanRight (endsOf ends) p) ⌝ }
 {
     if !ends_fit(ends, 8 + 8 * span, len) {
@@ -148,7 +158,7 @@ fn span_right(kind: usize, span: usize, len: usize, ends: Ends) -> bool
 
 // Rule 14.
 fn name_right(kind: usize, name: u8) -> bool
-    requires { ⌜ kind < 13 ⌝ }
+    requires { ⌜ kind < 14 ⌝ }
     ensures { λ r. ⌜ ((p : List ℕ) → kind ≡ kindOf p → name ≡ nameOf p → r ≡ nameRight p) ⌝ }
 {
     between(name, name_least(kind), name_most(kind))
@@ -156,7 +166,7 @@ fn name_right(kind: usize, name: u8) -> bool
 
 // Rule 15.
 fn value_right(kind: usize, value: u32) -> bool
-    requires { ⌜ kind < 13 ⌝ }
+    requires { ⌜ kind < 14 ⌝ }
     ensures { λ r. ⌜ ((p : List ℕ) → kind ≡ kindOf p → value ≡ word p 4 → r ≡ valueRight p) ⌝ }
 {
     value <= value_most(kind)

@@ -1,14 +1,12 @@
-use mathlib.Core.Path.{sym, ap, _∙_}
-use Prim.Native.Nat.{ℕ, _*_}
+use mathlib.Core.Path.{_≡_, sym, ap, _∙_}
+use Prim.Native.Nat.{_*_}
 use native.Mathlib.Omega.{arith}
-use native.Mathlib.Nat.{add-zero}
-use lib.Dec.{leb}
-use lib.ListN.{getD}
-use lib.Seq.{getD-drop}
 use borrow.Author.Tests.{le-leb, lt-leb, eq-eqb, ne-eqb}
-use Rattle.rules.specs.Table.{records}
+use Rattle.rules.specs.Table.{records, recipeOf}
+use Rattle.rules.specs.Places.{isPlace}
+use Rattle.rules.specs.Standing.{atPlace}
 use Rattle.rules.specs.Demand.{Bytes}
-use Rattle.rules.proofs.Standing.{is-place}
+use Rattle.rules.proofs.Standing.{kind-at, is-place}
 use borrow.Author.Needs.{needs}
 use Rattle.block.proofs.is_place.Statement.{statement}
 use Rattle.block.proofs.is_place.Tie as tie
@@ -48,19 +46,24 @@ shared-slice-read-wide c = search needs
 wide-requires : tie.Need-wide-requires
 wide-requires c κs = search needs
 
-returns-4 : tie.Need-returns-4
-returns-4 c =
+-- by the kind of the record
+by-kind : (c : tie.After-wide) → let a = c .before .before .before .before .before .before .args in
+    isPlace (recipeOf (a .table .now)) (a .i) ≡ atPlace (c .wide .result)
+by-kind c =
     let e = c .before .before in
     let k = e .before .before .before in
     let o = k .before in
     let i = o .args .i in
     let t = o .args .table .now in
+    let some = le-leb 1 i (omega (arith, e .before .before .if1 .left)) in
     let within = le-leb i (records t) (e .before .if2 .left) in
-    let first = getD-drop (8 * i) t 0 0 ∙ ap (λ (n : ℕ). getD t n 0) (add-zero (8 * i)) in
-    rw (is-place t (bytes k) (o .pre) i, le-leb 1 i (omega arith), within, ne-eqb i (records t) (e .if3 .left))
-    (ap (λ (n : ℕ). leb n 8) (c .wide .ensures .0 ∙ sym first))
+    rw (is-place t (bytes k) (o .pre) i, some, within, ne-eqb i (records t) (e .if3 .left)) (ap atPlace (kind-at t (8 * i) ∙ sym (c .wide .ensures .0)))
+
+returns-4 : tie.Need-returns-4
+returns-4 c = rw (by-kind (c .before), le-leb _ 8 (c .if4 .taken))
+
+returns-5 : tie.Need-returns-5
+returns-5 c = rw (by-kind (c .before), lt-leb _ 8 (c .if4 .left))
 
 pub is-place-spec : {M : Type 1} → statement M
-is-place-spec =
-    tie.close
-    (tie.spec returns returns-2 returns-3 mul-wide shared-slice-read-wide wide-requires returns-4)
+is-place-spec = tie.close (tie.spec returns returns-2 returns-3 mul-wide shared-slice-read-wide wide-requires returns-4 returns-5)

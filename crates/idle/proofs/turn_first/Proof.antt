@@ -68,8 +68,8 @@ add-put-event c =
     let e = l .loop .inv .1 .same-length in
     omega (arith, l .before .before .before .good .1 .1 .1 .1 .1 .1 .1 .1 .0)
 
-awaited-requires : tie.Need-awaited-requires Inv-loop μ-loop
-awaited-requires c κs = tt
+carried-requires : tie.Need-carried-requires Inv-loop μ-loop
+carried-requires c κs = tt
 
 put-event-requires : tie.Need-put-event-requires Inv-loop μ-loop
 put-event-requires c κs = let l = c .before .before .before .before .before .before in let h = room l in let i = c .before .before .before .before .before .loop-test .taken in omega arith
@@ -87,7 +87,7 @@ loop-again c =
     let p = o .pre in
     let x = c .before .before .before .before .before .before .before .waiting-at in
     let i = c .before .before .before .before .before .before .before .before .loop-test .taken in
-    let z = result32 {z = c .before .before .before .awaited .result} (c .before .before .before .awaited .ok) ∙ c .before .before .before .awaited .ensures in (
+    let z = result32 {z = c .before .before .before .carried .result} (c .before .before .before .carried .ok) ∙ c .before .before .before .carried .ensures in (
       omega arith,
       turned-more (o .args .table .now) (within l) _ _ _ _ _ (o .args .k) _ (taskOf (x .result .task)) (x .result .wait)
           (l .loop .inv .1) i (p .waits) (p .some-go) (p .in-budget) (p .in-log) (x .ensures .task-is) (x .ensures .wait-is)
@@ -127,7 +127,7 @@ turn-first-spec =
     waiting-at-requires
     mul-put-event
     add-put-event
-    awaited-requires
+    carried-requires
     put-event-requires
     add-i
     loop-less

@@ -10,7 +10,7 @@ use Rattle.rules.specs.Standing.{pointAt}
 use Rattle.state.specs.View.{taskOf}
 use Rattle.moves.specs.Moves.{Moves, Begins}
 use Rattle.ready.proofs.There.{Place, end-there, few-there}
-use Rattle.moves.proofs.Standing.{stop-there, part-there, span-there, from-two, to-eight, leads-there, begins-there}
+use Rattle.moves.proofs.Standing.{stop-there, part-there, span-there, from-two, some-place, leads-there, begins-there}
 use Rattle.moves.proofs.Acting.{end-moves}
 use Rattle.moves.proofs.move_of.Statement.{statement}
 use Rattle.moves.proofs.move_of.Tie as tie
@@ -55,7 +55,7 @@ statement-requires c κs =
     let p = place (e .before .before) in
     let l = e .if1 .left in
     let h = n .if2 .left in
-    rw (c .before .from .ensures) (part-there p l h, span-there p l h, from-two p l h, to-eight p l h)
+    rw (c .before .from .ensures) (part-there p l h, span-there p l h, from-two p l h, some-place p l h)
 
 returns-3 : tie.Need-returns-3
 returns-3 c =

@@ -1,3 +1,4 @@
+use Prim.Native.Nat.{_≤_}
 use mathlib.Core.Logic.{_⊎_, inl, inr, dite}
 use mathlib.Core.Path.{_≡_, _∙_}
 use native.Mathlib.Decide.{ℕ-discrete}
@@ -8,7 +9,9 @@ use Rattle.rules.specs.Recipe.{read, value}
 use Rattle.rules.specs.Table.{kindOf, nameOf, inner, exprOf}
 use Rattle.values.proofs.Exact.{fits32, applied1}
 use Rattle.state.specs.View.{taskOf}
-use Rattle.moves.proofs.Acting.{skip-moves, give-moves, wait-moves, set-moves, spawn-moves, test-moves}
+use Rattle.moves.specs.Moves.{Enclosing}
+use Rattle.moves.proofs.Standing.{test-bounds}
+use Rattle.moves.proofs.Acting.{skip-moves, give-moves, wait-moves, set-moves, spawn-moves, test-moves, guard-moves}
 use Rattle.moves.proofs.statement.Statement.{statement}
 use Rattle.moves.proofs.statement.Tie as tie
 
@@ -16,9 +19,23 @@ use Rattle.moves.proofs.statement.Tie as tie
 abbrev valued : tie.Start → ℤ → ℤ
 valued c z = value (record { variables = c .args .variables .now; parameter = z }) (exprOf (inner (c .args .part .now)))
 
+-- what is left is an if or a while
+bounds : (c : tie.At-match-rest) → let p = c .before .before .before .before .args .part .now in (4 ≤ kindOf p) × (kindOf p ≤ 5)
+bounds c =
+    let given = c .before .before .before .before .pre in
+    let n = c .match .rest in
+    test-bounds _ (given .2) (given .3) (n .0 .0 .0 .0 .0 .1) (n .0 .0 .0 .0 .1) (n .0 .0 .0 .1) (n .0 .0 .1) (n .0 .1) (n .1)
+
 tested : (c : tie.At-match-rest)
     → let p = c .before .before .before .before .args .part .now in (kindOf p ≡ 4) ⊎ (kindOf p ≡ 5)
-tested c = dite (ℕ-discrete (kindOf (c .before .before .before .before .args .part .now)) 4) inl (λ n. inr (omega arith))
+tested c =
+    let b = bounds c in
+    dite (ℕ-discrete (kindOf (c .before .before .before .before .args .part .now)) 4) inl (λ n. inr (omega (arith, b .0, b .1, n)))
+
+enclosing : (c : tie.At-match-rest) → Enclosing (c .before .before .before .before .args .part .now)
+enclosing c =
+    let b = bounds c in
+    record { part = c .before .before .before .before .pre .0; from-set = omega (arith, b .0); to-spawn = omega (arith, b .1) }
 
 shared-slice-read-kind : tie.Need-shared-slice-read-kind
 shared-slice-read-kind c = search needs
@@ -39,10 +56,10 @@ variable-requires : tie.Need-variable-requires
 variable-requires c κs = search needs
 
 value-of-requires-3 : tie.Need-value-of-requires-3
-value-of-requires-3 c κs = search needs
+value-of-requires-3 c κs = enclosing (c .before)
 
 branch-requires : tie.Need-branch-requires
-branch-requires c κs = search needs
+branch-requires c κs = (enclosing (c .before .before), c .before .before .before .before .before .before .pre .1)
 
 returns : tie.Need-returns
 returns c =
@@ -88,6 +105,11 @@ returns-5 c =
 
 returns-6 : tie.Need-returns-6
 returns-6 c =
+    let a = c .before .before .before .before .args in
+    λ begin b. guard-moves begin _ (taskOf (a .t)) (a .part .now) (a .place) (a .follow) (c .match .keys6)
+
+returns-7 : tie.Need-returns-7
+returns-7 c =
     let v = c .before in
     let k = v .before .before in
     let s = k .before .before .before .before in
@@ -113,4 +135,5 @@ statement-spec =
     returns-3
     returns-4
     returns-5
-    returns-6)
+    returns-6
+    returns-7)

@@ -1,9 +1,11 @@
-use mathlib.Core.Path.{sym, ap, _∙_}
+use mathlib.Core.Path.{_≡_, sym, ap, _∙_}
 use native.Mathlib.Omega.{arith}
+use Prim.Native.Nat.{_*_}
+use lib.ListN.{getD}
 use borrow.Author.Needs.{needs}
 use Rattle.rules.specs.Steps.{goTo}
-use Rattle.links.specs.Links.{isStatement}
-use Rattle.ready.proofs.There.{Place, Await, await-read, free-there, past-await}
+use Rattle.ready.specs.Ready.{waitKind}
+use Rattle.ready.proofs.There.{Place, waitable-there, waitable-inside, few-there, free-there}
 use Rattle.ready.proofs.past.Statement.{statement}
 use Rattle.ready.proofs.past.Tie as tie
 
@@ -12,33 +14,47 @@ place c =
     let given = c .before .pre in
     record { bytes = λ i. omega (arith, c .shared-slice-known .given i); accepted = given .0; placed = given .1 }
 
-there : (c : tie.Then1) → Await (place (c .before .before))
-there c = await-read (place (c .before .before)) (sym (c .before .is-await .ensures) ∙ c .if1 .taken)
+-- whether a task can wait there
+said : (c : tie.After-can-wait) → let a = c .before .before .before .args in c .can-wait .result ≡ waitKind (getD (a .table .now) (8 * a .place) 0)
+said c = c .can-wait .ensures ∙ ap waitKind (c .before .kind-at .ensures)
 
-mul-is-await : tie.Need-mul-is-await
-mul-is-await c = search needs
+mul-kind-at : tie.Need-mul-kind-at
+mul-kind-at c = search needs
 
-is-await-requires : tie.Need-is-await-requires
-is-await-requires c κs = search needs
+kind-at-requires : tie.Need-kind-at-requires
+kind-at-requires c κs = search needs
+
+can-wait-requires : tie.Need-can-wait-requires
+can-wait-requires c κs = search needs
 
 mul-follow : tie.Need-mul-follow
 mul-follow c = search needs
 
 element-copy-out-follow : tie.Need-element-copy-out-follow
-element-copy-out-follow c = there c .small
+element-copy-out-follow c =
+    let p = place (c .before .before .before) in
+    few-there p (waitable-inside p (sym (said (c .before)) ∙ c .if1 .taken))
 
 returns : tie.Need-returns
 returns c =
-    let s = c .before .before .before .before in
-    let e = there (c .before) .is in
-    λ t p. past-await _ t _ _ e ∙ ap (goTo t) (sym (s .pre .2 (s .args .place) (ap isStatement e)))
+    let k = c .before .before in
+    let s = k .before .before .before in
+    let h = waitable-there (place (k .before .before)) (sym (said k) ∙ c .before .if1 .taken) in
+    λ t p. h .goes-past t ∙ ap (goTo t) (sym (s .pre .2 (s .args .place) (h .a-statement)))
 
 returns-2 : tie.Need-returns-2
 returns-2 c =
-    let f = free-there (place (c .before .before)) (sym (c .before .is-await .ensures) ∙ c .if1 .left) in
+    let f = free-there (place (c .before .before .before)) (sym (said (c .before)) ∙ c .if1 .left) in
     λ t p. f .stays t ∙ ap (goTo t) p
 
 pub past-spec : {M : Type 1} → statement M
 past-spec =
     tie.close
-    (tie.spec mul-is-await is-await-requires mul-follow element-copy-out-follow returns returns-2)
+    (tie.spec
+    mul-kind-at
+    kind-at-requires
+    can-wait-requires
+    mul-follow
+    element-copy-out-follow
+    returns
+    returns-2)

@@ -1,12 +1,13 @@
 use Prim.Native.Nat.{ℕ, _+_, _*_}
 use mathlib.Core.Bool.{Bool, false}
-use mathlib.Core.Path.{_≡_, sym, ap, _∙_}
+use mathlib.Core.Path.{_≡_, refl, sym, ap, _∙_}
 use native.Mathlib.Omega.{arith}
 use lib.IntN.{ℤ}
 use mir.Val.{toZ, ofZ}
 use mir.Facts.{toZ-ofZ}
 use mir.Syntax.{w32}
 use lib.ListN.{getD}
+use borrow.Author.Tests.{ne-eqb}
 use borrow.Author.Needs.{needs}
 use Rattle.rules.specs.Recipe.{read}
 use Rattle.rules.specs.Table.{recipeOf}
@@ -14,7 +15,7 @@ use Rattle.rules.specs.Scheduler.{waits-for, isLive}
 use Rattle.rules.specs.Steps.{recipes, isDone}
 use Rattle.values.proofs.Exact.{result32}
 use Rattle.state.specs.View.{taskOf, queueOf}
-use Rattle.ready.specs.Ready.{idle, readyIn}
+use Rattle.ready.specs.Ready.{idle, readyIn, waitKind}
 use Rattle.ready.proofs.There.{Place, Await, await-read, free-there, wait-over, wait-on}
 use Rattle.ready.proofs.wait_of.Statement.{statement}
 use Rattle.ready.proofs.wait_of.Tie as tie
@@ -43,7 +44,7 @@ place c =
     record { bytes = λ i. omega (arith, c .shared-slice-known .given i); accepted = given .0; placed = given .1 }
 
 there : (c : tie.Then1) → Await (place (c .before .before .before))
-there c = await-read (place (c .before .before .before)) (sym (c .before .is-await .ensures) ∙ c .if1 .taken)
+there c = await-read (place (c .before .before .before)) (sym (c .before .kind-at .ensures) ∙ c .if1 .taken)
 
 cast-off : tie.Need-cast-off
 cast-off c = search needs
@@ -51,8 +52,8 @@ cast-off c = search needs
 mul-off : tie.Need-mul-off
 mul-off c = search needs
 
-is-await-requires : tie.Need-is-await-requires
-is-await-requires c κs = search needs
+kind-at-requires : tie.Need-kind-at-requires
+kind-at-requires c κs = search needs
 
 add-variable : tie.Need-add-variable
 add-variable c = search needs
@@ -98,10 +99,23 @@ returns-2 c =
 returns-3 : tie.Need-returns-3
 returns-3 c = waits (c .before .before .before) (sym (done (c .before)) ∙ c .if3 .left)
 
+guarded-requires : tie.Need-guarded-requires
+guarded-requires c κs =
+    let k = c .before .before in
+    let given = k .before .before .before .pre in
+    (given .0, given .1, sym (k .kind-at .ensures) ∙ c .if4 .taken)
+
 returns-4 : tie.Need-returns-4
 returns-4 c =
-    let k = c .before .before .before in
-    sym (free-there (place k) (sym (c .before .is-await .ensures) ∙ c .if1 .left) .waits-not _ _ (taskOf (k .before .args .t)))
+    let a = c .before .before .before .before .before .before .args in
+    c .guarded .ensures (idle (a .issued) (a .variables .now) (a .queue .now) (a .front) (a .queued)) refl
+
+returns-5 : tie.Need-returns-5
+returns-5 c =
+    let k = c .before .before in
+    let s = k .before .before in
+    let other : waitKind (k .kind-at .result) ≡ false = rw (ne-eqb _ 8 (c .before .if1 .left), ne-eqb _ 13 (c .if4 .left)) refl in
+    sym (free-there (place s) (ap waitKind (sym (k .kind-at .ensures)) ∙ other) .waits-not _ _ (taskOf (s .before .args .t)))
 
 pub wait-of-spec : {M : Type 1} → statement M
 wait-of-spec =
@@ -109,7 +123,7 @@ wait-of-spec =
     (tie.spec
     cast-off
     mul-off
-    is-await-requires
+    kind-at-requires
     add-variable
     shared-slice-read-variable
     variable-requires
@@ -117,4 +131,6 @@ wait-of-spec =
     is-done-requires
     returns-2
     returns-3
-    returns-4)
+    guarded-requires
+    returns-4
+    returns-5)

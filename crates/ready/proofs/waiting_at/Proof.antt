@@ -5,8 +5,6 @@ use borrow.Author.Needs.{needs}
 use Rattle.rules.specs.Table.{recipeOf}
 use Rattle.rules.specs.State.{Task}
 use Rattle.rules.specs.Scheduler.{isReady}
-use Rattle.values.proofs.Exact.{result32}
-use Rattle.rules.specs.Scheduler.{waits-for}
 use Rattle.state.specs.View.{taskOf, entry, queueOf}
 use Rattle.ready.specs.Ready.{idle, readyIn, Placed}
 use Rattle.ready.proofs.Queue.{every-at}
@@ -34,9 +32,9 @@ element-copy-out-unpack c = search needs
 unpack-requires : tie.Need-unpack-requires
 unpack-requires c κs = search needs
 
-awaited-by-requires : tie.Need-awaited-by-requires
+held-by-requires : tie.Need-held-by-requires
 unfolding queueOf
-awaited-by-requires c κs =
+held-by-requires c κs =
     let s = c .before .before .before in
     let a = s .args in
     let w = s .pre .0 in
@@ -51,7 +49,7 @@ returns c =
     let e = c .before .unpack .ensures in
     record {
       task-is = e;
-      wait-is = ap waits-for (result32 (c .awaited-by .ok)) ∙ c .awaited-by .ensures state refl (held (c .before)) ∙ ap (readyIn (a .table .now) state) e;
+      wait-is = c .held-by .ensures state refl (held (c .before)) ∙ ap (readyIn (a .table .now) state) e;
     }
 
 pub waiting-at-spec : {M : Type 1} → statement M
@@ -62,5 +60,5 @@ waiting-at-spec =
     mul-unpack
     element-copy-out-unpack
     unpack-requires
-    awaited-by-requires
+    held-by-requires
     returns)

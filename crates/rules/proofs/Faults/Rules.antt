@@ -160,7 +160,8 @@ field-unused (suc (suc (suc (suc (suc (suc (suc (suc (suc zero))))))))) f g = ab
 field-unused (suc (suc (suc (suc (suc (suc (suc (suc (suc (suc zero)))))))))) f g = refl
 field-unused (suc (suc (suc (suc (suc (suc (suc (suc (suc (suc (suc zero))))))))))) f g = refl
 field-unused (suc (suc (suc (suc (suc (suc (suc (suc (suc (suc (suc (suc zero)))))))))))) f g = refl
-field-unused (suc (suc (suc (suc (suc (suc (suc (suc (suc (suc (suc (suc (suc k))))))))))))) f g = refl
+field-unused (suc (suc (suc (suc (suc (suc (suc (suc (suc (suc (suc (suc (suc zero))))))))))))) f g = refl
+field-unused (suc (suc (suc (suc (suc (suc (suc (suc (suc (suc (suc (suc (suc (suc k)))))))))))))) f g = refl
 
 zero-rule : (z : ℤ) → not (equal z (pos 0)) ≡ not (isZero z)
 zero-rule (pos n) = refl

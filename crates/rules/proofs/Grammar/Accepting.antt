@@ -3,23 +3,24 @@
 use Prim.Native.Nat.{ℕ, zero, suc, _+_, _*_, _/_, _%_, _≤_, _<_}
 use mathlib.Core.Path.{_≡_, refl, sym, ap, _∙_, subst}
 use mathlib.Core.Bool.{true, _&&_, false≢true}
+use mathlib.Core.Logic.{dite}
 use mathlib.Core.List.{List, [], _∷_, _++_, append-nil}
 use native.Mathlib.Omega.{arith}
 use native.Mathlib.Decide.{decLt, ℕ-discrete}
-use lib.Dec.{leb}
+use lib.Dec.{eqb, leb}
 use lib.IntN.{ℤ, pos, negsuc, natAbs}
 use lib.Signed.{leZ}
 use lib.ListN.{length, getD, take, drop, length-append, length-take, take-append-drop, List·getD-eq-default}
 use lib.Seq.{drop-cons, getD-take, getD-drop, drop-drop}
-use borrow.Author.Tests.{leb-true, eqb-true}
+use borrow.Author.Tests.{ne-eqb, leb-true, eqb-true}
 use Rattle.rules.specs.Fields.{word, bits}
 use Rattle.rules.specs.Values.{isZero}
 use Rattle.rules.specs.Demand.{Bytes}
-use Rattle.rules.specs.Recipe.{Expr, constant, variable, two, one, Stmt, skip, assign, if, while, spawn, suspend, await, Body, fin, _▸_, Recipe, sizeE, sizeB, row, encodeE, encodeS, encodeB, encode, levelsE, levelsS, levelsB, NamedE, NamedS, NamedB, WithinR}
+use Rattle.rules.specs.Recipe.{Expr, constant, variable, two, one, Stmt, skip, assign, if, while, spawn, suspend, await, guard, Body, fin, _▸_, Recipe, sizeE, sizeB, row, encodeE, encodeS, encodeB, encode, levelsE, levelsS, levelsB, NamedE, NamedS, NamedB, WithinR}
 use Rattle.rules.specs.Table.{kindOf, nameOf, spanOf, valueOf, inner, after, Encloses, nothing, one-expression, expression-statements, kindRow, Sort, procedure, statement, expression, isOf, Ends, at-end, before-end, within, spanFits, valueFits, fine, enclosed, checkE, checkRows}
 use Rattle.rules.proofs.Grammar.Rows.{length-encodeE, length-encodeB}
 use Rattle.rules.proofs.Grammar.Checking.{Right, right-ends, right-span, right-whole, length-inner, length-after, inner-le, operands, expression-fine, expression-deep, inside, row-fine, row-not-deep}
-use Rattle.rules.proofs.Verdicts.{and-true, else-fine}
+use Rattle.rules.proofs.Verdicts.{and-true, or-left, else-fine}
 use Rattle.rules.proofs.Numbers.{bits-signed, signed-range, word-below}
 
 -- ---- parts of a buffer
@@ -222,29 +223,31 @@ pub record ReadsB (d : ℕ) (p : List ℕ) : Type 0 where
   pub named : NamedB 256 body
   pub shallow : levelsB body ≤ d
 
-data Seven (k : ℕ) : Type 0 where
-  is2 : k ≡ 2 → Seven k
-  is3 : k ≡ 3 → Seven k
-  is4 : k ≡ 4 → Seven k
-  is5 : k ≡ 5 → Seven k
-  is6 : k ≡ 6 → Seven k
-  is7 : k ≡ 7 → Seven k
-  is8 : k ≡ 8 → Seven k
+data Eight (k : ℕ) : Type 0 where
+  is2 : k ≡ 2 → Eight k
+  is3 : k ≡ 3 → Eight k
+  is4 : k ≡ 4 → Eight k
+  is5 : k ≡ 5 → Eight k
+  is6 : k ≡ 6 → Eight k
+  is7 : k ≡ 7 → Eight k
+  is8 : k ≡ 8 → Eight k
+  is13 : k ≡ 13 → Eight k
 
-seven : (k : ℕ) → isOf statement k ≡ true → Seven k
-seven k h = go (ℕ-discrete k 2) (ℕ-discrete k 3) (ℕ-discrete k 4) (ℕ-discrete k 5) (ℕ-discrete k 6) (ℕ-discrete k 7)
+eight : (k : ℕ) → isOf statement k ≡ true → Eight k
+eight k h = dite (ℕ-discrete k 13) is13 (λ n. go (ℕ-discrete k 2) (ℕ-discrete k 3) (ℕ-discrete k 4) (ℕ-discrete k 5) (ℕ-discrete k 6) (ℕ-discrete k 7) (bounds n))
   where
-    bounds : (2 ≤ k) × (k ≤ 8)
-    bounds = let a = and-true (leb 2 k) (leb k 8) h in (leb-true 2 k (a .0), leb-true k 8 (a .1))
+    bounds : ¬ (k ≡ 13) → (2 ≤ k) × (k ≤ 8)
+    bounds n =
+        let a = and-true (leb 2 k) (leb k 8) (or-left (leb 2 k && leb k 8) (eqb k 13) h (ne-eqb k 13 n)) in (leb-true 2 k (a .0), leb-true k 8 (a .1))
 
-    go : Dec (k ≡ 2) → Dec (k ≡ 3) → Dec (k ≡ 4) → Dec (k ≡ 5) → Dec (k ≡ 6) → Dec (k ≡ 7) → Seven k
-    go (yes e) b c d f g = is2 e
-    go (no a) (yes e) c d f g = is3 e
-    go (no a) (no b) (yes e) d f g = is4 e
-    go (no a) (no b) (no c) (yes e) f g = is5 e
-    go (no a) (no b) (no c) (no d) (yes e) g = is6 e
-    go (no a) (no b) (no c) (no d) (no f) (yes e) = is7 e
-    go (no a) (no b) (no c) (no d) (no f) (no g) = is8 (omega (arith, bounds .0, bounds .1))
+    go : Dec (k ≡ 2) → Dec (k ≡ 3) → Dec (k ≡ 4) → Dec (k ≡ 5) → Dec (k ≡ 6) → Dec (k ≡ 7) → (2 ≤ k) × (k ≤ 8) → Eight k
+    go (yes e) b c d f g l = is2 e
+    go (no a) (yes e) c d f g l = is3 e
+    go (no a) (no b) (yes e) d f g l = is4 e
+    go (no a) (no b) (no c) (yes e) f g l = is5 e
+    go (no a) (no b) (no c) (no d) (yes e) g l = is6 e
+    go (no a) (no b) (no c) (no d) (no f) (yes e) l = is7 e
+    go (no a) (no b) (no c) (no d) (no f) (no g) l = is8 (omega (arith, l .0, l .1))
 
 module _ {p : List ℕ} (b : Bytes p) (g : Right statement within p) (d : ℕ) where
   -- kinds 2, 7 and 8: nothing is enclosed
@@ -264,7 +267,7 @@ module _ {p : List ℕ} (b : Bytes p) (g : Right statement within p) (d : ℕ) w
   unfolding encodeS levelsS NamedS
   reads-await h = record { stmt = await (nameOf p); spelt = plain 8 h (span-fits g h) (nameOf p) refl (zero-value (valueOf p) (value-fits g h)); named = name-most g h; shallow = omega arith }
 
-  -- kinds 3 and 6: an expression alone
+  -- kinds 3, 6 and 13: an expression alone
   module _ (f : Right expression at-end (inner p)) (r : ReadsE d (inner p)) where
     span-one : spanOf p ≡ sizeE (r .expr)
     span-one = omega (arith, inner-length g, ap length (whole-of f r), length-encodeE (r .expr))
@@ -273,6 +276,16 @@ module _ {p : List ℕ} (b : Bytes p) (g : Right statement within p) (d : ℕ) w
     unfolding encodeS levelsS NamedS
     reads-assign h =
         record { stmt = assign (nameOf p) (r .expr); spelt = as-row p (some-record g) b h refl span-one (zero-value (valueOf p) (value-fits g h)) (whole-of f r); named = (name-most g h, r .named); shallow = omega (arith, r .shallow) }
+
+    reads-guard : kindOf p ≡ 13 → ReadsS (suc d) p
+    unfolding encodeS levelsS NamedS
+    reads-guard h =
+        record {
+          stmt = guard (r .expr);
+          spelt = as-row p (some-record g) b h (omega (arith, name-most g h)) span-one (zero-value (valueOf p) (value-fits g h)) (whole-of f r);
+          named = r .named;
+          shallow = omega (arith, r .shallow);
+        }
 
     reads-spawn : kindOf p ≡ 6 → ReadsS (suc d) p
     unfolding encodeS levelsS NamedS
@@ -334,7 +347,7 @@ module _ (d i : ℕ) (p : List ℕ) (ih : (j : ℕ) (q : List ℕ) → length q 
         ih j (after (inner p)) (omega (arith, length-after (inner p), inner-le p, some-record g)) (bytes-after (inner p) (bytes-inner p b)) (f .1),
       )
 
-  readsS : Seven (kindOf p) → ReadsS (suc d) p
+  readsS : Eight (kindOf p) → ReadsS (suc d) p
   readsS (is2 h) = reads-skip b g d h
   readsS (is3 h) = let r = alone h refl in reads-assign b g d (r .0) (r .1) h
   readsS (is4 h) = let r = tested h refl in reads-if b g d (r .0) (r .1) h
@@ -342,6 +355,7 @@ module _ (d i : ℕ) (p : List ℕ) (ih : (j : ℕ) (q : List ℕ) → length q 
   readsS (is6 h) = let r = alone h refl in reads-spawn b g d (r .0) (r .1) h
   readsS (is7 h) = reads-suspend b g d h
   readsS (is8 h) = reads-await b g d h
+  readsS (is13 h) = let r = alone h refl in reads-guard b g d (r .0) (r .1) h
 
 -- a row that passes, by the reading of shorter ones
 module _ (i : ℕ) (p : List ℕ) (ih : (d j : ℕ) (q : List ℕ) → length q < length p → Bytes q → checkRows statement d j q ≡ fine → ReadsB d q) (b : Bytes p) where
@@ -351,7 +365,7 @@ module _ (i : ℕ) (p : List ℕ) (ih : (d j : ℕ) (q : List ℕ) → length q 
   row-reads zero (no s) e = absurd (row-not-deep statement i p s e)
   row-reads (suc d) (no s) e =
       let c = row-fine statement d i p s e in
-      let r = readsS d i p (ih d) b (c .own) (c .first-fine) (seven (kindOf p) (c .own .due)) in
+      let r = readsS d i p (ih d) b (c .own) (c .first-fine) (eight (kindOf p) (c .own .due)) in
       let t = ih (suc d) (i + 1 + spanOf p) (after p) (omega (arith, length-after p, some-record (c .own))) (bytes-after p b) (c .rest-fine) in
       record { body = r .stmt ▸ t .body; spelt = r .spelt ∙ ap (λ (x : List ℕ). encodeS (r .stmt) ++ x) (t .spelt); named = (r .named, t .named); shallow = omega (arith, r .shallow, t .shallow) }
 

@@ -9,7 +9,7 @@ use lib.IntN.{ℤ, pos}
 use lib.ListN.{length}
 use Rattle.rules.specs.Fields.{bits, bytes2, bytes4}
 use Rattle.rules.specs.Values.{inRange}
-use Rattle.rules.specs.Recipe.{Expr, constant, variable, two, one, Stmt, skip, assign, if, while, spawn, suspend, await, Body, fin, _▸_, Recipe, sizeE, sizeS, sizeB, sizeR, row, encodeE, encodeS, encodeB, encode, NamedE, NamedS, NamedB, WithinR, Within}
+use Rattle.rules.specs.Recipe.{Expr, constant, variable, two, one, Stmt, skip, assign, if, while, spawn, suspend, await, guard, Body, fin, _▸_, Recipe, sizeE, sizeS, sizeB, sizeR, row, encodeE, encodeS, encodeB, encode, NamedE, NamedS, NamedB, WithinR, Within}
 use Rattle.rules.specs.Fairness.{Every}
 use Rattle.rules.specs.Demand.{Bytes}
 use Rattle.rules.proofs.Grammar.Reading.{number-value}
@@ -55,6 +55,7 @@ mutual
       row-bytes 6 v (sizeE e) (pos p) (encodeE e) (omega arith) (omega (arith, w .1)) (omega arith) (number-value p (w .2)) (bytesE e (w .4) (omega arith))
   bytesS n suspend w h = row-bytes 7 0 0 (pos 0) [] (omega arith) (omega arith) (omega arith) zero-fits tt
   bytesS n (await v) w h = row-bytes 8 v 0 (pos 0) [] (omega arith) (omega arith) (omega arith) zero-fits tt
+  bytesS n (guard e) w h = row-bytes 13 0 (sizeE e) (pos 0) (encodeE e) (omega arith) (omega arith) (omega arith) zero-fits (bytesE e w (omega arith))
 
   bytesB : (n : ℕ) (b : Body) (w : NamedB n b) (h : sizeB b ≤ 4096) → Every Byte (encodeB b)
   bytesB n fin w h = tt

@@ -9,7 +9,7 @@ use lib.IntN.{ℤ, pos}
 use lib.ListN.{length, length-append}
 use borrow.Author.Tests.{eq-eqb, lt-ltb, le-leb}
 use Rattle.rules.specs.Values.{inRange}
-use Rattle.rules.specs.Recipe.{Expr, constant, variable, two, one, Stmt, skip, assign, if, while, spawn, suspend, await, Body, fin, _▸_, Recipe, sizeE, sizeB, row, encodeE, encodeS, encodeB, encode, levelsE, levelsS, levelsB, NamedE, NamedS, NamedB, WithinR}
+use Rattle.rules.specs.Recipe.{Expr, constant, variable, two, one, Stmt, skip, assign, if, while, spawn, suspend, await, guard, Body, fin, _▸_, Recipe, sizeE, sizeB, row, encodeE, encodeS, encodeB, encode, levelsE, levelsS, levelsB, NamedE, NamedS, NamedB, WithinR}
 use Rattle.rules.specs.Table.{spanOf, inner, after, kindRow, Sort, procedure, statement, expression, isOf, Ends, at-end, before-end, within, endsFit, spanFits, valueFits, fine, _else_, enclosed, checkE, checkRows}
 use Rattle.rules.proofs.Grammar.Rows.{span-row, value-row, size-pos, stmt-pos, length-encodeE, length-encodeS, length-encodeB, length-encode, innerS, parts-two, parts-one, after-encodeE, parts-stmt, parts-procedure}
 use Rattle.rules.proofs.Grammar.Reading.{number-value}
@@ -93,6 +93,8 @@ right-stmt (spawn n p e) m r w =
     (w .0) (w .1) (number-value p (w .2)) (rw (le-leb 0 p (omega arith), le-leb p 255 (w .2)) refl)
 right-stmt suspend m r w = right-within statement 7 0 0 (pos 0) r refl (omega arith) refl (omega arith) (omega arith) refl refl
 right-stmt (await n) m r w = right-within statement 8 n 0 (pos 0) r refl (omega arith) refl (omega arith) w refl refl
+right-stmt (guard e) m r w =
+    right-within statement 13 0 (sizeE e) (pos 0) (encodeE e ++ r) refl (omega (arith, length-append (encodeE e) r, length-encodeE e)) (le-leb 1 (sizeE e) (size-pos e)) (omega arith) (omega arith) refl refl
 
 levels-pos : (s : Stmt) → 1 ≤ levelsS s
 unfolding levelsS
@@ -103,6 +105,7 @@ levels-pos (while e b) = omega arith
 levels-pos (spawn n p e) = omega arith
 levels-pos suspend = omega arith
 levels-pos (await n) = omega arith
+levels-pos (guard e) = omega arith
 
 -- an expression alone, and a test with its body
 alone-passes : (e : Expr) (d i : ℕ) (q : List ℕ) → NamedE e → levelsE e ≤ d → q ≡ encodeE e → checkE d i at-end q ≡ fine
@@ -130,6 +133,7 @@ mutual
   inside-passes (spawn n p e) m d i r w h = alone-passes e d (i + 1) _ (w .4) (omega arith) (parts-stmt (spawn n p e) r .inner-is)
   inside-passes suspend m d i r w h = refl
   inside-passes (await n) m d i r w h = refl
+  inside-passes (guard e) m d i r w h = alone-passes e d (i + 1) _ w (omega arith) (parts-stmt (guard e) r .inner-is)
 
   rows-pass : (b : Body) (m d i : ℕ) → NamedB m b → levelsB b ≤ d → checkRows statement d i (encodeB b) ≡ fine
   rows-pass fin m d i w h = row-empty statement d i [] refl

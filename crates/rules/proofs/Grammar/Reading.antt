@@ -9,7 +9,7 @@ use lib.IntN.{pos, natAbs}
 use lib.ListN.{length, length-append}
 use borrow.Author.Tests.{ne-eqb, le-leb}
 use Rattle.rules.specs.Values.{inRange}
-use Rattle.rules.specs.Recipe.{Expr, constant, variable, two, one, Stmt, skip, assign, if, while, spawn, suspend, await, Body, fin, _▸_, Recipe, sizeE, sizeS, sizeB, sizeR, encodeE, encodeS, encodeB, encode, NamedE, NamedS, NamedB, WithinR, Within}
+use Rattle.rules.specs.Recipe.{Expr, constant, variable, two, one, Stmt, skip, assign, if, while, spawn, suspend, await, guard, Body, fin, _▸_, Recipe, sizeE, sizeS, sizeB, sizeR, encodeE, encodeS, encodeB, encode, NamedE, NamedS, NamedB, WithinR, Within}
 use Rattle.rules.specs.Table.{inner, after, readE, exprOf, stmtOf, readB, bodyOf, readR, recipeOf}
 use Rattle.rules.proofs.Grammar.Rows.{value-row, length-encodeE, length-encodeS, length-encodeB, length-encode, stmt-pos, innerS, parts-two, parts-one, after-encodeE, parts-stmt, parts-procedure}
 
@@ -59,6 +59,7 @@ mutual
       ap₂ (spawn v) (ap natAbs (value-row 6 v (sizeE e) (pos p) (encodeE e ++ r) (number-value p (w .2)))) (ap exprOf (parts-stmt (spawn v p e) r .inner-is) ∙ expr-only e (w .4))
   read-encodeS suspend m n r w h = refl
   read-encodeS (await v) m n r w h = refl
+  read-encodeS (guard e) m n r w h = ap guard (ap exprOf (parts-stmt (guard e) r .inner-is) ∙ expr-only e w)
 
   read-encodeB : (b : Body) (m n : ℕ) → NamedB m b → sizeB b ≤ n → readB n (encodeB b) ≡ b
   read-encodeB fin m zero w h = refl

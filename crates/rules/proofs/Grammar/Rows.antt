@@ -10,7 +10,7 @@ use lib.ListN.{length, length-append}
 use lib.Seq.{take-at, drop-at}
 use Rattle.rules.specs.Fields.{word, signed, bits}
 use Rattle.rules.specs.Values.{inRange}
-use Rattle.rules.specs.Recipe.{Expr, constant, variable, two, one, Stmt, skip, assign, if, while, spawn, suspend, await, Body, fin, _▸_, Recipe, sizeE, sizeS, sizeB, sizeR, row, encodeE, encodeS, encodeB, encode}
+use Rattle.rules.specs.Recipe.{Expr, constant, variable, two, one, Stmt, skip, assign, if, while, spawn, suspend, await, guard, Body, fin, _▸_, Recipe, sizeE, sizeS, sizeB, sizeR, row, encodeE, encodeS, encodeB, encode}
 use Rattle.rules.specs.Table.{spanOf, valueOf, inner, after}
 use Rattle.rules.proofs.Numbers.{signed-bits}
 
@@ -56,6 +56,7 @@ span-encodeS (while e b) r = omega (arith, span-row 5 0 (sizeE e + sizeB b) (pos
 span-encodeS (spawn v p e) r = omega (arith, span-row 6 v (sizeE e) (pos p) (encodeE e ++ r))
 span-encodeS suspend r = refl
 span-encodeS (await v) r = refl
+span-encodeS (guard e) r = omega (arith, span-row 13 0 (sizeE e) (pos 0) (encodeE e ++ r))
 
 pub stmt-pos : (s : Stmt) → 1 ≤ sizeS s
 unfolding sizeS
@@ -66,6 +67,7 @@ stmt-pos (while e b) = omega arith
 stmt-pos (spawn n p e) = omega arith
 stmt-pos suspend = omega arith
 stmt-pos (await n) = omega arith
+stmt-pos (guard e) = omega arith
 
 pub length-encodeE : (e : Expr) → length (encodeE e) ≡ 8 * sizeE e
 unfolding sizeE encodeE
@@ -85,6 +87,7 @@ mutual
   length-encodeS (spawn n p e) = omega (arith, length-encodeE e)
   length-encodeS suspend = refl
   length-encodeS (await n) = refl
+  length-encodeS (guard e) = omega (arith, length-encodeE e)
 
   pub length-encodeB : (b : Body) → length (encodeB b) ≡ 8 * sizeB b
   length-encodeB fin = refl
@@ -104,6 +107,7 @@ innerS (while e b) = encodeE e ++ encodeB b
 innerS (spawn n p e) = encodeE e
 innerS suspend = []
 innerS (await n) = []
+innerS (guard e) = encodeE e
 
 -- the parts that a record of the recipe makes, whatever follows
 pub record Parts (p x r : List ℕ) : Type 0 where
@@ -149,6 +153,7 @@ parts-stmt (while e b) r = parts-row 5 0 (sizeE e + sizeB b) (pos 0) (encodeE e 
 parts-stmt (spawn n p e) r = parts-row 6 n (sizeE e) (pos p) (encodeE e) r (length-encodeE e)
 parts-stmt suspend r = parts-row 7 0 0 (pos 0) [] r refl
 parts-stmt (await n) r = parts-row 8 n 0 (pos 0) [] r refl
+parts-stmt (guard e) r = parts-row 13 0 (sizeE e) (pos 0) (encodeE e) r (length-encodeE e)
 
 pub parts-procedure : (b : Body) (r : Recipe) → Parts (encode (b ∷ r)) (encodeB b) (encode r)
 unfolding encode

@@ -10,7 +10,7 @@ use lib.Dec.{leb}
 use lib.IntN.{ℤ, pos}
 use lib.ListN.{length, drop}
 use borrow.Author.Tests.{lt-leb, leb-false, ne-eqb, not-true}
-use Rattle.rules.specs.Recipe.{Expr, constant, variable, two, one, Stmt, skip, assign, if, while, spawn, suspend, await, Body, fin, _▸_, Recipe, sizeE, sizeS, sizeB, sizeR, row, encodeE, encodeS, encodeB, encode, NamedS, NamedB, WithinR}
+use Rattle.rules.specs.Recipe.{Expr, constant, variable, two, one, Stmt, skip, assign, if, while, spawn, suspend, await, guard, Body, fin, _▸_, Recipe, sizeE, sizeS, sizeB, sizeR, row, encodeE, encodeS, encodeB, encode, NamedS, NamedB, WithinR}
 use Rattle.rules.specs.Table.{fine, fault, checkSpawns, namesNone, procedures}
 use Rattle.rules.proofs.Grammar.Rows.{value-row}
 use Rattle.rules.proofs.Grammar.Reading.{number-value}
@@ -73,6 +73,7 @@ module _ {A : Type 0} (F : ℕ → List ℕ → A) (least : ℕ) (over : (k n s 
     over-stmt (spawn n p e) l j q = over-with (omega arith) 6 n (pos p) e j q (omega arith)
     over-stmt suspend l j q = over-one 7 0 0 (pos 0) q (1 + j) j (omega arith) (omega arith)
     over-stmt (await n) l j q = over-one 8 n 0 (pos 0) q (1 + j) j (omega arith) (omega arith)
+    over-stmt (guard e) l j q = over-with (omega arith) 13 0 (pos 0) e j q (omega arith)
 
     pub over-body : (b : Body) (l : least ≤ 2) (j : ℕ) (q : List ℕ) → F (sizeB b + j) (encodeB b ++ q) ≡ F j q
     over-body fin l j q = ap (λ (i : ℕ). F i q) (omega arith)
@@ -114,6 +115,7 @@ module _ (m : ℕ) where
     spawnsNamedS (spawn n p e) = not (leb m p)
     spawnsNamedS suspend = true
     spawnsNamedS (await n) = true
+    spawnsNamedS (guard e) = true
 
     spawnsNamedB : Body → Bool
     spawnsNamedB fin = true
@@ -147,6 +149,7 @@ module _ (m : ℕ) where
     spawnsS (spawn v p e) n w j q = spawn-named v p e j q (w .2)
     spawnsS suspend n w j q = one-over 7 0 0 (pos 0) q (1 + j) j (omega arith) (omega arith)
     spawnsS (await v) n w j q = one-over 8 v 0 (pos 0) q (1 + j) j (omega arith) (omega arith)
+    spawnsS (guard e) n w j q = one-over 13 0 (sizeE e) (pos 0) (encodeE e ++ q) (1 + sizeE e + j) (sizeE e + j) (omega arith) (omega arith) ∙ spawnsE e j q
 
     spawnsB : (b : Body) (n : ℕ) (w : NamedB n b) (j : ℕ) (q : List ℕ) → spawnsOk (sizeB b + j) m (encodeB b ++ q) ≡ (spawnsNamedB b && spawnsOk j m q)
     spawnsB fin n w j q = ap (λ (i : ℕ). spawnsOk i m q) (omega arith)
@@ -166,6 +169,7 @@ module _ (m : ℕ) where
     named-spawnsS (spawn v p e) w = rw (lt-leb m p (w .3)) refl
     named-spawnsS suspend w = refl
     named-spawnsS (await v) w = refl
+    named-spawnsS (guard e) w = refl
 
     named-spawnsB : (b : Body) (w : NamedB m b) → spawnsNamedB b ≡ true
     named-spawnsB fin w = refl
@@ -182,6 +186,7 @@ module _ (m : ℕ) where
     spawns-namedS (spawn v p e) n w h = (w .0, w .1, w .2, leb-false m p (not-true (leb m p) h), w .4)
     spawns-namedS suspend n w h = tt
     spawns-namedS (await v) n w h = w
+    spawns-namedS (guard e) n w h = w
 
     spawns-namedB : (b : Body) (n : ℕ) (w : NamedB n b) → spawnsNamedB b ≡ true → NamedB m b
     spawns-namedB fin n w h = tt

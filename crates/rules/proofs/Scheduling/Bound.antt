@@ -7,7 +7,7 @@ use mathlib.Core.Option.{Option, none, some}
 use mathlib.Core.List.{List, [], _∷_, _++_, append-assoc, tail-eq-of-cons-eq}
 use native.Mathlib.Omega.{arith}
 use lib.ListN.{length}
-use Rattle.rules.specs.Scheduler.{Readiness, ready, waits-for, Rules, Limit, Stay, on, back, over, Act, halts, does, count, Config, readiness, canGo, anyGo, Next, finish, jam, bar, goes, tryOf, jamOr, nextAct, stay, next, Ending, finished, paused, stuck, logfull, limit, stops, test}
+use Rattle.rules.specs.Scheduler.{Readiness, ready, waits-for, at-guard, Rules, Limit, Stay, on, back, over, Act, halts, does, count, Config, readiness, canGo, anyGo, Next, finish, jam, bar, goes, tryOf, jamOr, nextAct, stay, next, Ending, finished, paused, stuck, logfull, limit, stops, test}
 use Rattle.rules.specs.Moments.{Call, call, budgets, Does, made, ends, Moment, trace}
 use Rattle.rules.specs.Fairness.{Every, tried, until, stepBy, longestOf, longest, Free, Stuck, TakenWithin}
 use Rattle.rules.proofs.Scheduling.Lawful.{ready-when}
@@ -66,6 +66,7 @@ module _ (R : Rules) where
   try-no-jam : (u : Readiness) (c : Config R) (t : R .Task) (q : List (R .Task)) → ¬ (tryOf R u c t q ≡ jam)
   try-no-jam ready c t q e = let z : _≡_ {A = ℕ} 0 1 = cc in omega arith
   try-no-jam (waits-for w) c t q e = let z : _≡_ {A = ℕ} 0 1 = cc in omega arith
+  try-no-jam at-guard c t q e = let z : _≡_ {A = ℕ} 0 1 = cc in omega arith
 
   act-no-jam : (q : List (R .Task)) (a : Act (R .Store) (R .Task) (R .Event)) → ¬ (nextAct R q a ≡ jam)
   act-no-jam q (halts k) e = let z : _≡_ {A = ℕ} 0 1 = cc in omega arith
@@ -102,6 +103,7 @@ module _ (R : Rules) where
       go : (u : Bool) (v : Readiness) → ¬ (jamOr R u (tryOf R v (idleC R s (t ∷ q)) t q) ≡ bar k)
       go true ready e = let z : _≡_ {A = ℕ} 0 1 = cc in omega arith
       go true (waits-for w) e = let z : _≡_ {A = ℕ} 0 1 = cc in omega arith
+      go true at-guard e = let z : _≡_ {A = ℕ} 0 1 = cc in omega arith
       go false v e = let z : _≡_ {A = ℕ} 0 1 = cc in omega arith
 
   -- "finished" is said exactly of a configuration without tasks
@@ -111,6 +113,7 @@ module _ (R : Rules) where
       try-not-done : (u : Bool) (v : Readiness) (c : Config R) (t : R .Task) (q : List (R .Task)) → ¬ (jamOr R u (tryOf R v c t q) ≡ finish)
       try-not-done true ready c t q e = let z : _≡_ {A = ℕ} 0 1 = cc in omega arith
       try-not-done true (waits-for w) c t q e = let z : _≡_ {A = ℕ} 0 1 = cc in omega arith
+      try-not-done true at-guard c t q e = let z : _≡_ {A = ℕ} 0 1 = cc in omega arith
       try-not-done false v c t q e = let z : _≡_ {A = ℕ} 0 1 = cc in omega arith
 
       go : (s : R .Store) (a : Option (R .Task)) (q : List (R .Task)) → next R (record { store = s; active = a; queue = q }) ≡ finish → (a ≡ none) × (q ≡ [])

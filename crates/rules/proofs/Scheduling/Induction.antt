@@ -6,7 +6,7 @@ use mathlib.Core.Bool.{Bool, true, false}
 use mathlib.Core.Option.{Option, none, some}
 use mathlib.Core.List.{List, [], _∷_, _++_}
 use native.Mathlib.Omega.{arith}
-use Rattle.rules.specs.Scheduler.{Readiness, ready, waits-for, isReady, Rules, Stay, Act, halts, does, Config, readiness, canGo, anyGo, Next, finish, jam, bar, goes, tryOf, jamOr, nextAct, stay, next, Ending, paused, What, stops, makes, test, size, end, run, carry, last}
+use Rattle.rules.specs.Scheduler.{Readiness, ready, waits-for, at-guard, isReady, Rules, Stay, Act, halts, does, Config, readiness, canGo, anyGo, Next, finish, jam, bar, goes, tryOf, jamOr, nextAct, stay, next, Ending, paused, What, stops, makes, test, size, end, run, carry, last}
 use Rattle.rules.specs.Moments.{Call, refused, call, made, ends, Moment, moments, trace}
 
 module _ (R : Rules) where
@@ -83,16 +83,17 @@ module _ (R : Rules) where
     by-kind s none [] b r cs x c′ ms e h = absurd (let z : _≡_ {A = ℕ} 0 1 = cc in omega arith)
     by-kind s none (t ∷ q) b r cs x c′ ms e h = go (anyGo R (idleC s (t ∷ q)) (t ∷ q)) (readiness R (idleC s (t ∷ q)) t) refl e
       where
+        turned : isReady (readiness R (idleC s (t ∷ q)) t) ≡ false → idleC s (q ++ (t ∷ [])) ≡ c′ → P (idleC s (t ∷ q)) (call (suc b) r ∷ cs) (stepM (idleC s (t ∷ q)) (suc b) r cs x ∷ ms)
+        turned p f = p-turned s t q x b r (r - size R x) cs ms p (rw f h)
+
         go : (u : Bool) (v : Readiness) → readiness R (idleC s (t ∷ q)) t ≡ v → jamOr R u (tryOf R v (idleC s (t ∷ q)) t q) ≡ goes x c′ → P (idleC s (t ∷ q)) (call (suc b) r ∷ cs) (stepM (idleC s (t ∷ q)) (suc b) r cs x ∷ ms)
         go false v p e′ = absurd (let z : _≡_ {A = ℕ} 0 1 = cc in omega arith)
         go true ready p e′ = p-took s t q x b r (r - size R x) cs ms (ap isReady p) (rw f h)
           where
             f : busyC s (R .up t) q ≡ c′
             f = cc
-        go true (waits-for z) p e′ = p-turned s t q x b r (r - size R x) cs ms (ap isReady p) (rw f h)
-          where
-            f : idleC s (q ++ (t ∷ [])) ≡ c′
-            f = cc
+        go true (waits-for z) p e′ = turned (ap isReady p) cc
+        go true at-guard p e′ = turned (ap isReady p) cc
     by-kind s (some t) q b r cs x c′ ms e h = go (R .act s q t) refl e
       where
         go : (u : Act (R .Store) (R .Task) (R .Event)) → R .act s q t ≡ u → nextAct R q u ≡ goes x c′ → P (busyC s t q) (call (suc b) r ∷ cs) (stepM (busyC s t q) (suc b) r cs x ∷ ms)

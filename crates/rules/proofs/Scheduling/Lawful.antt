@@ -5,7 +5,7 @@ use mathlib.Core.Path.{_≡_, refl}
 use mathlib.Core.Bool.{true, false, true≢false, false≢true}
 use mathlib.Core.List.{List}
 use lib.IntN.{ℤ}
-use Rattle.rules.specs.Scheduler.{Readiness, ready, waits-for, isReady, Rules, Stay, on, back, over, Act, halts, does, count}
+use Rattle.rules.specs.Scheduler.{Readiness, ready, waits-for, at-guard, isReady, noNumber, Rules, Stay, on, back, over, Act, halts, does, count, Config, tryOf, turnOf}
 
 -- a task keeps its number
 abbrev pub Keeps : (R : Rules) → R .Task → Stay (R .Task) → Type 0
@@ -32,7 +32,10 @@ pub record Lawful (R : Rules) : Type 0 where
 pub ready-when : (w : Readiness) → isReady w ≡ true → w ≡ ready
 ready-when ready h = refl
 ready-when (waits-for z) h = absurd (false≢true h)
+ready-when at-guard h = absurd (false≢true h)
 
-pub waits-when : (w : Readiness) → isReady w ≡ false → (z : ℤ) × (w ≡ waits-for z)
-waits-when ready h = absurd (true≢false h)
-waits-when (waits-for z) h = (z, refl)
+-- the try of a task that waits turns it, whatever it waits for
+pub turns-when : (R : Rules) (w : Readiness) → isReady w ≡ false → (c : Config R) (t : R .Task) (q : List (R .Task)) → (z : ℤ) × (tryOf R w c t q ≡ turnOf R z c t q)
+turns-when R ready h c t q = absurd (true≢false h)
+turns-when R (waits-for z) h c t q = (z, refl)
+turns-when R at-guard h c t q = (noNumber, refl)

@@ -4,15 +4,14 @@ use Prim.Native.Nat.{ℕ, zero, suc}
 use mathlib.Core.Path.{_≡_, refl, sym, ap, subst, fun-ext}
 use mathlib.Core.Logic.{_↔_}
 use mathlib.Core.Bool.{false}
-use mathlib.Core.Option.{Option, none, some}
+use mathlib.Core.Option.{Option, none}
 use mathlib.Core.List.{List, [], _∷_, _++_}
 use native.Mathlib.Omega.{arith}
 use lib.Dec.{ltb}
-use lib.IntN.{ℤ}
-use Rattle.rules.specs.Scheduler.{waits-for, isReady, Rules, count, isLive, Config, readiness, canGo, goes, next, Ending, stuck, stops, test}
+use Rattle.rules.specs.Scheduler.{isReady, Rules, count, isLive, Config, readiness, canGo, goes, next, Ending, stuck, stops, test}
 use Rattle.rules.specs.Moments.{Call, Does, made, ends, Moment, trace}
 use Rattle.rules.specs.Fairness.{Every, Stuck, second, pull, afterwards, tryFirst, Turned, AllTurned}
-use Rattle.rules.proofs.Scheduling.Lawful.{waits-when}
+use Rattle.rules.proofs.Scheduling.Lawful.{turns-when}
 use Rattle.rules.proofs.Scheduling.Induction.{idleC, trace-ind}
 use Rattle.rules.proofs.Scheduling.Bound.{not-nil, every-mid, count-append, reason, jam-stuck, stuck-jam}
 use Rattle.rules.proofs.Lists.{every-append, every-map}
@@ -53,10 +52,6 @@ module _ (R : Rules) where
       same : isLive R (q ++ (t ∷ [])) ≡ isLive R (c .queue)
       same = fun-ext (λ n. let e : count R n (q ++ (t ∷ [])) ≡ count R n (c .queue) = omega (arith, count-append R n q (t ∷ []), k n) in ap (λ z. ltb 0 z) e)
 
-  turned-first : (c : Config R) (t : R .Task) (q : List (R .Task)) (z : ℤ) → readiness R c t ≡ waits-for z
-      → tryFirst R c (t ∷ q) ≡ goes (some (R .turn t z)) (idleC R (c .store) (q ++ (t ∷ [])))
-  turned-first c t q z e = rw e refl
-
   pub stuck-for-ever : (c : Config R) → Stuck R c → (picks : List ℕ) → AllTurned R c picks
   stuck-for-ever c s [] = tt
   stuck-for-ever c s (i ∷ picks) = go (pull R i (c .queue)) (pull-not-nil i (c .queue) (s .some-queued)) (λ n. count-pull n i (c .queue)) (every-pull (λ u. canGo R c u ≡ false) i (c .queue) (s .none-ready)) (λ c′ s′. stuck-for-ever c′ s′ picks)
@@ -65,9 +60,8 @@ module _ (R : Rules) where
           → Turned R c l (tryFirst R c l) × AllTurned R (afterwards R c (tryFirst R c l)) picks
       go [] n k h ih = absurd (n refl)
       go (t ∷ q) n k h ih =
-          let w = waits-when (readiness R c t) (h .0) in
-          let e = turned-first c t q (w .0) (w .1) in
-          ((w .0, e), subst (λ y. AllTurned R (afterwards R c y) picks) (sym e) (ih (idleC R (c .store) (q ++ (t ∷ []))) (turn-stuck c t q s k h)))
+          let w = turns-when R (readiness R c t) (h .0) c t q in
+          (w, subst (λ y. AllTurned R (afterwards R c y) picks) (sym (w .1)) (ih (idleC R (c .store) (q ++ (t ∷ []))) (turn-stuck c t q s k h)))
 
   -- at every moment of a list of calls: "stuck" is said exactly of a stuck state
   StuckP : Config R → List Call → List (Moment R) → Type 0

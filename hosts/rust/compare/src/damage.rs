@@ -24,7 +24,7 @@ fn damage_record(random: &mut Random, table: &mut Vec<u8>, at: usize, procedures
         return;
     }
     match random.below(100) {
-        0..20 => table[byte] = random.below(15) as u8,
+        0..20 => table[byte] = random.within(0, 14) as u8,
         20..45 => damage_span(random, &mut table[byte + 2..byte + 4]),
         45..60 => table[byte + 1] = random.pick(&[0, 1, 2, 7, 8, 9, 63, 64, 65, 128, 255]),
         60..75 => {
@@ -92,7 +92,7 @@ fn random_record(random: &mut Random) -> [u8; 8] {
     let name = random.pick(&[0, 0, 0, 1, 7, 8, 64, 65]);
     let value: i32 = random.pick(&[0, 0, 0, 0, 1, 255, 256, -1]);
     let [v0, v1, v2, v3] = value.to_le_bytes();
-    [random.within(0, 13) as u8, name, s0, s1, v0, v1, v2, v3]
+    [random.within(0, 14) as u8, name, s0, s1, v0, v1, v2, v3]
 }
 
 /// A table of random records that starts as a procedure.

@@ -12,6 +12,7 @@ pub const CONSTANT: u8 = 9;
 pub const READ: u8 = 10;
 pub const TWO: u8 = 11;
 pub const ONE: u8 = 12;
+pub const GUARD: u8 = 13;
 
 /// A table under construction, with the places that a task may stand at.
 #[derive(Clone, Debug, Default)]
@@ -38,7 +39,7 @@ impl Recipe {
         let at = self.records();
         match kind {
             PROCEDURE => self.procedures += 1,
-            SKIP..=AWAIT => self.places.push(at as u16),
+            SKIP..=AWAIT | GUARD => self.places.push(at as u16),
             _ => self.expressions.push(at as u16),
         }
         self.table.extend([kind, name, 0, 0]);

@@ -107,7 +107,7 @@ impl Shrinker<'_> {
                     take_out(case, at + 1, enclosed(case, at));
                     if let Some(record) = case.table.get_mut(8 * at..8 * at + 8) {
                         record[0] = kind;
-                        record[2..4].fill(0);
+                        record[1..4].fill(0);
                     }
                 });
             }

@@ -1,7 +1,7 @@
 //! The benchmark's workloads: each is one call, made again and again from the same block.
 
 use crate::case::Side;
-use crate::recipe::{Recipe, AWAIT, IF, SET, SKIP, SUSPEND, TWO};
+use crate::recipe::{Recipe, AWAIT, GUARD, IF, SET, SKIP, SUSPEND, TWO};
 use std::hint::black_box;
 
 /// The most records of a table.
@@ -80,6 +80,7 @@ pub fn workloads() -> Vec<Workload> {
         Workload::new("loop", Step, local_loop(), 0, STEPS),
         suspend(31),
         wait(31),
+        Workload::new("guard", Step, guarded(32), WARM, STEPS),
         Workload::new("spawn", Step, spawner(), 0, STEPS),
         deep(LEVELS),
         Workload::new("short-calls", Call, mixed_table(RECORDS), 100, 10),
@@ -145,9 +146,14 @@ fn suspend_forever(r: &mut Recipe) {
 
 /// Tasks of which the first spawns the others, then suspends again and again.
 fn first_and_others(tasks: usize, other: impl FnOnce(&mut Recipe)) -> Recipe {
+    first_and_others_with(tasks, |_| 1, other)
+}
+
+/// The same, each of the others with a parameter of its own.
+fn first_and_others_with(tasks: usize, parameter: fn(usize) -> i32, other: impl FnOnce(&mut Recipe)) -> Recipe {
     let mut recipe = Recipe::new();
     recipe.procedure(|r| {
-        (1..tasks).for_each(|_| r.spawn(8, 1, 1));
+        (1..tasks).for_each(|task| r.spawn(8, 1, parameter(task)));
         suspend_forever(r);
     });
     recipe.procedure(other);
@@ -162,6 +168,19 @@ fn suspenders(tasks: usize) -> Recipe {
 /// One task that suspends; the others wait for it, and it goes on for ever.
 fn waiters(tasks: usize) -> Recipe {
     first_and_others(tasks, |r| r.leaf(AWAIT, 64, 0))
+}
+
+/// One task that suspends; the others wait at guards, each until a variable has passed a value of its own, which it never
+/// does.
+fn guarded(tasks: usize) -> Recipe {
+    first_and_others_with(tasks, |task| task as i32, |r| {
+        r.node(GUARD, 0, 0, |r| {
+            r.node(TWO, 4, 0, |r| {
+                r.read(64);
+                r.read(9);
+            });
+        });
+    })
 }
 
 /// Spawns a task that ends at once, and waits for it.

@@ -1,7 +1,7 @@
 //! Random recipes.
 
 use crate::random::Random;
-use crate::recipe::{Recipe, AWAIT, IF, ONE, PROCEDURE, SET, SKIP, SPAWN, SUSPEND, TWO, WHILE};
+use crate::recipe::{Recipe, AWAIT, GUARD, IF, ONE, PROCEDURE, SET, SKIP, SPAWN, SUSPEND, TWO, WHILE};
 
 /// What a random recipe is like.
 #[derive(Clone, Debug)]
@@ -159,9 +159,10 @@ impl Writer<'_> {
         }
         match self.random.below(100) {
             0..12 => self.recipe.leaf(SKIP, 0, 0),
-            12..50 => self.node(SET, name, 0, |w| w.expression(depth + 1)),
-            50..73 => self.recipe.leaf(SUSPEND, 0, 0),
-            _ => self.recipe.leaf(AWAIT, name, 0),
+            12..47 => self.node(SET, name, 0, |w| w.expression(depth + 1)),
+            47..67 => self.recipe.leaf(SUSPEND, 0, 0),
+            67..84 => self.recipe.leaf(AWAIT, name, 0),
+            _ => self.node(GUARD, 0, 0, |w| w.expression(depth + 1)),
         }
     }
 

@@ -3,7 +3,7 @@
 
 use compare::generate::random_case;
 use compare::random::Random;
-use compare::recipe::{Recipe, AWAIT, SUSPEND};
+use compare::recipe::{Recipe, AWAIT, CONSTANT, GUARD, READ, SUSPEND, TWO};
 use compare::writer::{lively_recipe, random_recipe, Style};
 use recipe_runner::{run, start};
 use std::collections::BTreeMap;
@@ -50,21 +50,64 @@ impl View<'_> {
         self.queue().map(|record| self.number(record)).collect()
     }
 
-    /// The number that the task of a state record waits for, if it waits.
+    /// What the task of a state record reads under a name.
+    fn read(&self, record: usize, name: u8) -> i32 {
+        self.value(if name == 64 { 8 * record + 4 } else { 264 + 4 * usize::from(name) })
+    }
+
+    fn is_done(&self, number: i32) -> bool {
+        let live = (1..=self.live()).any(|other| i32::from(self.number(other)) == number);
+        1 <= number && number <= i32::from(self.word(0)) && !live
+    }
+
+    /// What the log says of the task of a state record if it waits: the number that it awaits, 0 at a guard.
     fn waits(&self, record: usize) -> Option<i32> {
         let place = usize::from(self.word(8 * record + 2));
-        if self.table.get(8 * place) != Some(&AWAIT) {
-            return None;
+        match self.table.get(8 * place..8 * place + 2)? {
+            [AWAIT, name] => Some(self.read(record, *name)).filter(|number| !self.is_done(*number)),
+            [GUARD, _] => Some(0).filter(|_| self.expression(record, place + 1).0 == 0),
+            _ => None,
         }
-        let name = usize::from(self.table[8 * place + 1]);
-        let number = if name == 64 { self.value(8 * record + 4) } else { self.value(264 + 4 * name) };
-        let issued = 1 <= number && number <= i32::from(self.word(0));
-        let live = (1..=self.live()).any(|other| i32::from(self.number(other)) == number);
-        (!issued || live).then_some(number)
+    }
+
+    /// The value of the expression at an index for the task of a state record, and the index after it.
+    fn expression(&self, record: usize, at: usize) -> (i32, usize) {
+        let [kind, name, _, _, value @ ..] = self.table.as_chunks::<8>().0[at];
+        match kind {
+            CONSTANT => (i32::from_le_bytes(value), at + 1),
+            READ => (self.read(record, name), at + 1),
+            TWO => {
+                let (a, second) = self.expression(record, at + 1);
+                let (b, after) = self.expression(record, second);
+                (two_operands(name, a.into(), b.into()), after)
+            }
+            _ => {
+                let (a, after) = self.expression(record, at + 1);
+                (if name == 0 { held(-i64::from(a)) } else { i32::from(a == 0) }, after)
+            }
+        }
     }
 
     fn is_stuck(&self) -> bool {
         !self.active() && self.live() > 0 && self.queue().all(|record| self.waits(record).is_some())
+    }
+}
+
+/// An exact result, or the end of the range that is nearer.
+fn held(exact: i64) -> i32 {
+    exact.clamp(i32::MIN.into(), i32::MAX.into()) as i32
+}
+
+fn two_operands(operator: u8, a: i64, b: i64) -> i32 {
+    match operator {
+        0 => held(a + b),
+        1 => held(a - b),
+        2 => held(a * b),
+        3 => held(a.checked_div(b).unwrap_or(0)),
+        4 => i32::from(a < b),
+        5 => i32::from(a == b),
+        6 => i32::from(a != 0 && b != 0),
+        _ => i32::from(a != 0 || b != 0),
     }
 }
 
@@ -103,25 +146,28 @@ fn trace(table: &[u8], steps: usize) -> Trace {
     trace
 }
 
-/// Recipes that keep many tasks busy, the first two of a fixed kind; some others that mostly end.
+/// Recipes that keep many tasks busy, the first three of a fixed kind; some others that mostly end.
 fn recipes(seed: u64, count: usize) -> impl Iterator<Item = Recipe> {
     let mut random = Random::new(seed);
     let short = Style { records: 40, procedures: 3, deepest: 16, nesting: 30, wide: 0, spawns: 20 };
     (0..count).map(move |i| match i {
-        0 | 1 => many_tasks(i == 1),
+        0 => many_tasks(|r| r.leaf(SUSPEND, 0, 0)),
+        1 => many_tasks(|r| r.leaf(AWAIT, 64, 0)),
+        2 => many_tasks(|r| r.node(GUARD, 0, 0, |r| r.read(9))),
         _ if i % 3 == 0 => random_recipe(&mut random, &short),
         _ => lively_recipe(&mut random),
     })
 }
 
-/// 31 tasks that only suspend, or 30 that wait behind one that suspends.
-fn many_tasks(waiting: bool) -> Recipe {
+/// One task that suspends, and 30 others that make the same statement again and again: suspend, wait for the first, or
+/// wait at an untrue guard.
+fn many_tasks(statement: fn(&mut Recipe)) -> Recipe {
     let mut recipe = Recipe::new();
     recipe.procedure(|r| {
         (0..30).for_each(|_| r.spawn(8, 1, 1));
         r.forever(|r| r.leaf(SUSPEND, 0, 0));
     });
-    recipe.procedure(|r| r.forever(|r| if waiting { r.leaf(AWAIT, 64, 0) } else { r.leaf(SUSPEND, 0, 0) }));
+    recipe.procedure(|r| r.forever(statement));
     recipe
 }
 

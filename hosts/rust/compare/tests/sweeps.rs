@@ -5,7 +5,7 @@ use compare::block::{block_of, damage_block, TASKS, WAYS};
 use compare::case::{Call, Case};
 use compare::check::Coverage;
 use compare::random::Random;
-use compare::recipe::{Recipe, AWAIT, IF, ONE, SET, SKIP, SPAWN, SUSPEND, TWO, WHILE};
+use compare::recipe::{Recipe, AWAIT, GUARD, IF, ONE, SET, SKIP, SPAWN, SUSPEND, TWO, WHILE};
 use compare::writer::{random_recipe, Style};
 
 fn calls(budgets: &[u32]) -> Vec<Call> {
@@ -39,6 +39,7 @@ fn every_kind() -> Recipe {
         r.leaf(SUSPEND, 0, 0);
         r.node(SPAWN, 64, 1, |r| r.read(64));
         r.node(SET, 0, 0, |r| r.read(64));
+        r.node(GUARD, 0, 0, |r| r.read(9));
     });
     recipe
 }
@@ -122,7 +123,7 @@ fn every_length() {
 
 #[test]
 fn every_table_of_up_to_three_records_by_kind_and_span() {
-    let records: Vec<[u8; 8]> = (0..=13u8)
+    let records: Vec<[u8; 8]> = (0..=14u8)
         .flat_map(|kind| (0..=3u8).map(move |span| (kind, span)))
         .map(|(kind, span)| [kind, if kind == 6 { 8 } else { 0 }, span, 0, 0, 0, 0, 0])
         .collect();
@@ -147,7 +148,7 @@ fn every_table_of_up_to_three_records_by_kind_and_span() {
 #[test]
 fn every_name_with_values_and_depths() {
     let mut coverage = Coverage::default();
-    for (kind, name) in (2..=12u8).flat_map(|kind| (0..=255).map(move |name| (kind, name))) {
+    for (kind, name) in (2..=13u8).flat_map(|kind| (0..=255).map(move |name| (kind, name))) {
         for (value, deep) in [0, 1, -1, 255, 256, i32::MIN].into_iter().flat_map(|v| [(v, false), (v, true)]) {
             let nested = if deep { 16 } else { 3 };
             let table = nested_record(nested, kind, name, value);
@@ -161,13 +162,13 @@ fn every_name_with_values_and_depths() {
 fn nested_record(ifs: usize, kind: u8, name: u8, value: i32) -> Vec<u8> {
     fn add(r: &mut Recipe, kind: u8, name: u8, value: i32) {
         match kind {
-            9.. => r.node(SET, 8, 0, |r| add_alone(r, kind, name, value)),
+            9..=12 => r.node(SET, 8, 0, |r| add_alone(r, kind, name, value)),
             _ => add_alone(r, kind, name, value),
         }
     }
     fn add_alone(r: &mut Recipe, kind: u8, name: u8, value: i32) {
         let operands = match kind {
-            3..=6 | 12 => 1,
+            3..=6 | 12 | 13 => 1,
             11 => 2,
             _ => 0,
         };

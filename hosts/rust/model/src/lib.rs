@@ -1,9 +1,9 @@
-//! An independent model of the recipe runner, written from the scope document alone.
+//! An independent model of the recipe runner, written from the documents alone.
 //!
-//! [`start`], [`run`] and [`print()`] are total functions on bytes. The modules follow the document's order, and each
-//! function names the rule that it stands for. It serves as the other side of the comparison tests, as the source of the
-//! stored cases and as the benchmark's baseline, so it is written the plain way, with care for speed: the table is
-//! read once a call into a vector of nodes, the live tasks are a ring, the state is changed in place.
+//! [`start`], [`run`] and [`print()`] are total functions on bytes. The modules follow the scope document's order, and
+//! each function names the rule that it stands for. It serves as the other side of the comparison tests, as the source
+//! of the stored cases and as the benchmark's baseline, so it is written the plain way, with care for speed: the table
+//! is read once a call into a vector of nodes, the live tasks are a ring, the state is changed in place.
 
 mod table;
 

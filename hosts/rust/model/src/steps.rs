@@ -46,26 +46,30 @@ impl State {
         }
     }
 
-    /// The number of the await that a task stands at, if at one: "the variable's value now".
+    /// Not "it waits if its next statement is an await and the variable's value now is not a done number". A task at a
+    /// guard "passes only if the expression is true then".
     #[inline]
-    fn awaited(&self, recipe: &Recipe, task: &Task) -> Option<i32> {
+    fn is_ready(&self, recipe: &Recipe, task: &Task) -> bool {
         match recipe.at(task.place) {
-            Node::Await { name, .. } => Some(self.context(recipe, task).read(name)),
-            _ => None,
+            Node::Await { name, .. } => self.is_done(self.context(recipe, task).read(name)),
+            Node::Guard { .. } => self.argument(recipe, task) != 0,
+            _ => true,
         }
     }
 
-    /// Not "it waits if its next statement is an await and the variable's value now is not a done number".
-    #[inline]
-    fn is_ready(&self, recipe: &Recipe, task: &Task) -> bool {
-        self.awaited(recipe, task).is_none_or(|number| self.is_done(number))
-    }
-
-    /// How many queued tasks stand before the first ready one. Without one, a queue that is not empty is "stuck".
+    /// How many queued tasks stand before the first ready one, mostly the front, which is tested without a call.
     #[inline]
     pub fn before_ready(&self, recipe: &Recipe) -> Result<usize, Stop> {
+        if self.is_ready(recipe, &self.tasks.first()) {
+            return Ok(0);
+        }
+        self.behind_front(recipe)
+    }
+
+    /// The same behind a front that waits. Without a ready task, a queue that is not empty is "stuck".
+    fn behind_front(&self, recipe: &Recipe) -> Result<usize, Stop> {
         let ready = |&before: &usize| self.is_ready(recipe, &self.tasks.at(before));
-        (0..self.tasks.live()).find(ready).ok_or(Stop::Stuck)
+        (1..self.tasks.live()).find(ready).ok_or(Stop::Stuck)
     }
 
     /// "With a task active, one step is": the row for the node that the task stands at. The stops 3, 4 and 5 are tried
@@ -97,10 +101,9 @@ impl State {
             }
             Node::Await { name, .. } => {
                 let number = self.context(recipe, task).read(name);
-                log.write(task.number, Event::Waits(number))?;
-                self.put_back(*task);
-                return Ok(Burst::Over);
+                return self.wait(task, number, log);
             }
+            Node::Guard { .. } => return self.wait(task, 0, log),
             _ => {
                 log.write(task.number, Event::Ended)?;
                 self.active = false;
@@ -126,7 +129,24 @@ impl State {
         Ok(())
     }
 
-    /// The first task joins the back, and no task is active: suspend, await, and a turn.
+    /// What the log says of a task that waits: "the variable's value now" at an await, 0 at a guard.
+    #[inline]
+    fn awaited(&self, recipe: &Recipe, task: &Task) -> i32 {
+        match recipe.at(task.place) {
+            Node::Await { name, .. } => self.context(recipe, task).read(name),
+            _ => 0,
+        }
+    }
+
+    /// An await or a guard: the task "joins the back, still at the await", with what the log says of it.
+    #[inline]
+    fn wait(&mut self, task: &Task, number: i32, log: &mut Log) -> Result<Burst, Stop> {
+        log.write(task.number, Event::Waits(number))?;
+        self.put_back(*task);
+        Ok(Burst::Over)
+    }
+
+    /// The first task joins the back, and no task is active: suspend, await, guard, and a turn.
     #[inline]
     fn put_back(&mut self, task: Task) {
         self.active = false;
@@ -138,18 +158,17 @@ impl State {
     #[inline]
     pub fn turn(&mut self, recipe: &Recipe, log: &mut Log) -> Result<(), Stop> {
         let front = self.tasks.first();
-        let number = self.awaited(recipe, &front).unwrap_or(0);
-        log.write(front.number, Event::Turned(number))?;
+        log.write(front.number, Event::Turned(self.awaited(recipe, &front)))?;
         self.put_back(front);
         Ok(())
     }
 
-    /// A try of a front that is ready: it "becomes active (past its await, if it stood at one)".
+    /// A try of a front that is ready: it "becomes active (past its await, if it stood at one)", or past its guard.
     #[inline]
     pub fn take_up(&mut self, recipe: &Recipe, log: &mut Log) -> Result<(), Stop> {
         let front = self.tasks.first();
         log.write(front.number, Event::Taken)?;
-        if let Node::Await { next, .. } = recipe.at(front.place) {
+        if let Node::Await { next, .. } | Node::Guard { next } = recipe.at(front.place) {
             self.tasks.set_first(Task { place: next, ..front });
         }
         self.active = true;

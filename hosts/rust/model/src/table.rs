@@ -59,8 +59,8 @@ const ANY: Encloses = Encloses::Least(0);
 const ONE: Encloses = Encloses::Least(1);
 const TWO: Encloses = Encloses::Least(2);
 
-/// Kinds 1 to 12.
-const ROWS: [Row; 12] = [
+/// Kinds 1 to 13.
+const ROWS: [Row; 13] = [
     row((0, 0), ANY, Values::Zero),
     row((0, 0), NOTHING, Values::Zero),
     row((0, 64), ONE, Values::Zero),
@@ -73,6 +73,7 @@ const ROWS: [Row; 12] = [
     row((0, 64), NOTHING, Values::Zero),
     row((0, 7), TWO, Values::Zero),
     row((0, 1), ONE, Values::Zero),
+    row((0, 0), ONE, Values::Zero),
 ];
 
 /// What stands at a record. A statement knows the places that it leads to; its expression, and the first operand of an
@@ -90,6 +91,7 @@ pub enum Node {
     Spawn { name: u8, procedure: u8, next: u16 },
     Suspend { next: u16 },
     Await { name: u8, next: u16 },
+    Guard { next: u16 },
     Constant(i32),
     Read { name: u8 },
     TwoOperands { operator: u8, second: u16 },
@@ -289,6 +291,12 @@ impl Reader<'_> {
             3 => {
                 let (after, next) = check(3)?;
                 self.set(at, after, depth, record.name(), next)
+            }
+            // "With the span rules of kind 3."
+            13 => {
+                let (after, next) = check(13)?;
+                self.put(at, Node::Guard { next });
+                self.expression(at + 1, Ends::whole(after), depth + 1)
             }
             kind @ (4 | 5) => {
                 let (after, next) = check(kind.into())?;

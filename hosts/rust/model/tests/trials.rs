@@ -1,4 +1,4 @@
-//! The rows "From the trial press", and the readings that look natural and are wrong.
+//! The rows "From the trial press", rows for guards, and the readings that look natural and are wrong.
 
 use recipe_model::{print, run, start, Answer, Started};
 
@@ -191,6 +191,20 @@ fn faults_in_their_order() {
 }
 
 #[test]
+fn guards_are_checked_as_sets_are() {
+    assert_eq!(refusal(&[(1, 0, 2, 0), (13, 0, 1, 0), (9, 0, 0, 1)]), (0, 0));
+    assert_eq!(refusal(&[(1, 0, 1, 0), (13, 0, 0, 0)]), (13, 1));
+    assert_eq!(refusal(&[(1, 0, 3, 0), (13, 0, 2, 0), (9, 0, 0, 1), (9, 0, 0, 1)]), (13, 2));
+    assert_eq!(refusal(&[(1, 0, 3, 0), (13, 0, 2, 0), (9, 0, 0, 1), (2, 0, 0, 0)]), (13, 2));
+    assert_eq!(refusal(&[(1, 0, 2, 0), (13, 8, 1, 0), (9, 0, 0, 1)]), (14, 1));
+    assert_eq!(refusal(&[(1, 0, 2, 0), (13, 0, 1, 1), (9, 0, 0, 1)]), (15, 1));
+    // No procedure and no expression.
+    assert_eq!(refusal(&[(13, 0, 1, 0), (9, 0, 0, 1)]), (12, 0));
+    assert_eq!(refusal(&[(1, 0, 3, 0), (3, 8, 2, 0), (13, 0, 1, 0), (9, 0, 0, 1)]), (12, 2));
+    assert_eq!(refusal(&[(1, 0, 3, 0), (13, 0, 2, 0), (13, 0, 1, 0), (9, 0, 0, 1)]), (12, 2));
+}
+
+#[test]
 fn an_empty_body_is_run_through() {
     assert_eq!(ending(&[(1, 0, 2, 0), (4, 0, 1, 0), (9, 0, 0, 1)]), (0, 2));
     assert_eq!(trial(&[(1, 0, 2, 0), (5, 0, 1, 0), (9, 0, 0, 1)], 100), (1, 100, vec![]));
@@ -217,6 +231,101 @@ fn the_awaited_variable_is_read_at_each_try() {
     assert_eq!(lines.iter().filter(|line| line.0 == 5).collect::<Vec<_>>(), [&(5, 1, 0, 0)]);
 }
 
+#[test]
+fn a_guard_that_is_true_when_reached_waits_too() {
+    let rows = [(1, 0, 4, 0), (13, 0, 1, 0), (9, 0, 0, -1), (3, 0, 1, 0), (9, 0, 0, 1)];
+    let lines = vec![(4, 1, 0, 0), (2, 1, 0, 0), (7, 1, 0, 1), (6, 1, 0, 0)];
+    assert_eq!(trial(&rows, 100), (0, 4, lines));
+}
+
+#[test]
+fn a_guard_is_tested_at_each_try() {
+    // Main reaches its guard with variable 8 true; task 2 sets it to 0, gives way and sets it to 1 again.
+    let set = |value| [(3, 8, 1, 0), (9, 0, 0, value)];
+    let spawn_and_guard = [(6, 9, 1, 1), (9, 0, 0, 0), (13, 0, 1, 0), (10, 8, 0, 0)];
+    let main = [&[(1, 0, 6, 0)], &set(1)[..], &spawn_and_guard].concat();
+    let child = [&[(1, 0, 5, 0)], &set(0)[..], &[(7, 0, 0, 0)], &set(1)].concat();
+    let lines = vec![
+        (1, 1, 0, 2),
+        (4, 1, 0, 0),
+        (2, 2, 0, 0),
+        (3, 2, 0, 0),
+        (5, 1, 0, 0),
+        (2, 2, 0, 0),
+        (6, 2, 0, 0),
+        (2, 1, 0, 0),
+        (6, 1, 0, 0),
+    ];
+    assert_eq!(trial(&[main, child].concat(), 100), (0, 12, lines));
+}
+
+#[test]
+fn a_guard_is_turned_until_another_task_makes_it_true() {
+    // Main waits until variable 8 is set; task 2 gives way twice before it sets it.
+    let rows = [
+        (1, 0, 4, 0),
+        (6, 9, 1, 1),
+        (9, 0, 0, 0),
+        (13, 0, 1, 0),
+        (10, 8, 0, 0),
+        (1, 0, 4, 0),
+        (7, 0, 0, 0),
+        (7, 0, 0, 0),
+        (3, 8, 1, 0),
+        (9, 0, 0, 7),
+    ];
+    let (number, steps, lines) = trial(&rows, 100);
+    assert_eq!((number, steps), (0, 13));
+    let of_main = lines.into_iter().filter(|line| line.1 == 1);
+    let waited = [(1, 1, 0, 2), (4, 1, 0, 0), (5, 1, 0, 0), (5, 1, 0, 0), (2, 1, 0, 0), (6, 1, 0, 0)];
+    assert_eq!(of_main.collect::<Vec<_>>(), waited);
+}
+
+#[test]
+fn a_guard_reads_the_waiting_tasks_parameter() {
+    // Tasks 2 and 3 wait until variable 8 is their parameter; main gives way with 2 in it, then with 1.
+    let mut rows = vec![(1, 0, 10, 0), (6, 9, 1, 1), (9, 0, 0, 1), (6, 9, 1, 1), (9, 0, 0, 2)];
+    rows.extend([(3, 8, 1, 0), (9, 0, 0, 2), (7, 0, 0, 0), (7, 0, 0, 0), (3, 8, 1, 0), (9, 0, 0, 1)]);
+    rows.extend([(1, 0, 6, 0), (13, 0, 3, 0), (11, 5, 2, 0), (10, 8, 0, 0), (10, 64, 0, 0)]);
+    rows.extend([(3, 0, 1, 0), (10, 64, 0, 0)]);
+    let (number, _, lines) = trial(&rows, 100);
+    assert_eq!(number, 0);
+    let valves = lines.into_iter().filter(|line| line.0 == 7);
+    assert_eq!(valves.collect::<Vec<_>>(), [(7, 3, 0, 2), (7, 2, 0, 1)]);
+}
+
+#[test]
+fn untrue_guards_are_stuck() {
+    assert_eq!(ending(&[(1, 0, 2, 0), (13, 0, 1, 0), (10, 8, 0, 0)]), (2, 1));
+    // Main awaits task 2, which stands at a guard over its own parameter, 0, from its spawn on: no turn comes before.
+    let main = [(1, 0, 3, 0), (6, 8, 1, 1), (9, 0, 0, 0), (8, 8, 0, 0)];
+    let child = [(1, 0, 2, 0), (13, 0, 1, 0), (10, 64, 0, 0)];
+    assert_eq!(trial(&[&main[..], &child].concat(), 100), (2, 2, vec![(1, 1, 0, 2), (4, 1, 0, 2)]));
+}
+
+#[test]
+fn an_await_and_a_guard_of_each_others_making() {
+    // Main awaits task 2, whose guard is true once main has set variable 9: before the await, or only after it.
+    let main = [(1, 0, 5, 0), (6, 8, 1, 1), (9, 0, 0, 0)];
+    let (set, wait) = ([(3, 9, 1, 0), (9, 0, 0, 1)], [(8, 8, 0, 0)]);
+    let child = [(1, 0, 3, 0), (2, 0, 0, 0), (13, 0, 1, 0), (10, 9, 0, 0)];
+    let before = [&main[..], &set, &wait, &child].concat();
+    let after = [&main[..], &wait, &set, &child].concat();
+    let lines = vec![
+        (1, 1, 0, 2),
+        (4, 1, 0, 2),
+        (2, 2, 0, 0),
+        (4, 2, 0, 0),
+        (5, 1, 0, 2),
+        (2, 2, 0, 0),
+        (6, 2, 0, 0),
+        (2, 1, 0, 0),
+        (6, 1, 0, 0),
+    ];
+    assert_eq!(trial(&before, 100), (0, 11, lines));
+    assert_eq!(ending(&after), (2, 5));
+}
+
 /// Calls with a budget and a log, until so many steps are made: the last state and the logs joined.
 fn slices(rows: &[Row], steps: u32, budget: u32, log: usize) -> (Vec<u8>, Vec<u8>) {
     let table = table(rows);
@@ -232,20 +341,24 @@ fn slices(rows: &[Row], steps: u32, budget: u32, log: usize) -> (Vec<u8>, Vec<u8
 
 #[test]
 fn a_run_may_stop_between_turns() {
-    // Three tasks wait for main, which suspends for ever.
+    // Two tasks wait for main and one at an untrue guard; main suspends for ever.
     let rows = [
         (1, 0, 9, 0),
         (6, 8, 1, 1),
         (9, 0, 0, 1),
         (6, 8, 1, 1),
         (9, 0, 0, 1),
-        (6, 8, 1, 1),
+        (6, 8, 1, 2),
         (9, 0, 0, 1),
         (5, 0, 2, 0),
         (9, 0, 0, 1),
         (7, 0, 0, 0),
         (1, 0, 1, 0),
         (8, 64, 0, 0),
+        (1, 0, 3, 0),
+        (13, 0, 2, 0),
+        (12, 1, 1, 0),
+        (10, 64, 0, 0),
     ];
     let whole = slices(&rows, 60, 60, 480);
     for budget in 1..8 {

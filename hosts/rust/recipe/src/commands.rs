@@ -7,6 +7,7 @@ use std::path::Path;
 use recipe_runner::{records, Ending, Ran, Record, Refusal, State, RECORD, STATE};
 
 use crate::args::{Given, Options};
+use crate::course::Course;
 use crate::failure::{Failure, UNFINISHED};
 use crate::files::{self, Loaded};
 use crate::picture::{self, Heading};
@@ -178,10 +179,9 @@ fn timeline(given: &Given) -> Result<u8, Failure> {
     let (input, output) = (given.input(), given.output());
     keep_input(&TIMELINE, input.as_deref(), output.as_deref())?;
     let Loaded { name, table } = files::load(input.as_deref())?;
-    let (_, ran) = call(&table, None, budget, &mut log).map_err(|refusal| refused(&name, &table, refusal))?;
-    let timeline = Timeline::of(records(&log, ran.records), ran.ending);
+    let course = Course::of(&table, budget, &mut log).map_err(|refusal| refused(&name, &table, refusal))?;
     let title = input.as_deref().and_then(Path::file_name).map_or(name, |base| base.to_string_lossy().into_owned());
-    let heading = Heading { name: &title, ending: ran.ending, steps: ran.steps, budget };
-    files::write(output.as_deref(), picture::draw(&timeline, &heading).as_bytes())?;
+    let heading = Heading { name: &title, ending: course.ending, steps: course.steps, budget };
+    files::write(output.as_deref(), picture::draw(&Timeline::of(&course), &heading).as_bytes())?;
     Ok(0)
 }

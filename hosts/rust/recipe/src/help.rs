@@ -52,6 +52,7 @@ The text is in one of two notations. A \"#\" begins a comment in both.
     variable pressure 12          # a variable with a number of one's own
     procedure main                # the first procedure is the main one
         spawn presser press 5     # the new task's number goes into \"presser\"
+        guard 2 < pressure        # until that is true
         await presser             # until that task is done
         set valve0 1
     procedure press p             # p is the task's parameter
@@ -64,7 +65,7 @@ The text is in one of two notations. A \"#\" begins a comment in both.
 
     set NAME EXPRESSION     spawn NAME PROCEDURE EXPRESSION     skip
     if EXPRESSION           await NAME                          suspend
-    while EXPRESSION
+    while EXPRESSION        guard EXPRESSION
 
   Expressions, from the tightest: -x, * /, + -, < ==, not, and, or, with
   parentheses. Constants are -2147483648 to 2147483647; the minus sign of
@@ -101,7 +102,8 @@ usage: recipe run [FILE] [OPTIONS]
 
 Runs a table, or text whose name ends in \".recipe\". Prints a line for each log
 record (kind, task, valve, value), then the ending and the steps; or \"refused\"
-with number and place (exit status 1).
+with number and place (exit status 1). The value of \"waits\" and \"turned\" is the
+number awaited, 0 at a guard.
 
   --budget N        the most steps, 0 to 4294967295 (10000)
   --log RECORDS     the log's room, 0 to 16777216 records (4096)
@@ -111,7 +113,7 @@ with number and place (exit status 1).
   --strict          exit status 3 if the ending is not \"finished\"
 
 endings: finished  no task is left
-         stuck     every task waits, and none can ever go on
+         stuck     every task waits for a number not done or an untrue guard
          paused    the budget is used up
          tasks     the next step is a spawn, and 32 tasks are live
          spent     the next step is a spawn, and 65535 numbers are issued
@@ -123,7 +125,7 @@ usage: recipe timeline [FILE] [OPTIONS]
 
 Runs a table, or text whose name ends in \".recipe\", and draws what each task
 does as an SVG picture: a lane for each task, time from left to right in log
-records.
+records. A wait is drawn with the number awaited, or as one at a guard.
 
   --budget N        the most steps, 0 to 4294967295 (10000)
   --log RECORDS     the log's room, 0 to 65536 records (4096)

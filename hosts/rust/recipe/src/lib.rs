@@ -5,7 +5,9 @@
 
 pub mod args;
 pub mod asm;
+pub mod block;
 pub mod commands;
+pub mod course;
 pub mod expression;
 pub mod failure;
 pub mod files;

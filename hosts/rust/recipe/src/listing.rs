@@ -71,7 +71,7 @@ fn statement(text: &mut String, record: Record, inner: &[Record], indent: usize)
         kind::SET => format!("set {} {}", variable(record.name), operand.text),
         kind::SPAWN => format!("spawn {} {} {}", variable(record.name), procedure(record.value), operand.text),
         kind::AWAIT => format!("await {}", variable(record.name)),
-        kind::IF | kind::WHILE => format!("{word} {}", operand.text),
+        kind::IF | kind::WHILE | kind::GUARD => format!("{word} {}", operand.text),
         _ => word.to_string(),
     };
     let _ = writeln!(text, "{:indent$}{line}", "");

@@ -16,7 +16,7 @@ const SHARED: usize = 64;
 /// The last procedure that a spawn can name.
 const LAST_SPAWNED: usize = 255;
 /// Words that name nothing.
-const RESERVED: [&str; 13] = [
+const RESERVED: [&str; 14] = [
     "procedure",
     "variable",
     "skip",
@@ -26,6 +26,7 @@ const RESERVED: [&str; 13] = [
     "spawn",
     "suspend",
     "await",
+    "guard",
     "and",
     "or",
     "not",

@@ -2,6 +2,7 @@
 
 use recipe_runner::Ending;
 
+use crate::block::Wait;
 use crate::svg::{text_width, Svg};
 use crate::timeline::{Bar, Doing, Lane, Setting, Spawn, Timeline};
 use crate::words::counted;
@@ -17,7 +18,7 @@ const TEXT_SIZE: f64 = 12.0;
 /// Half the height of a burst, of a queued task's bar and of an ended task's cap.
 const BURST: f64 = 7.0;
 const QUEUED: f64 = 2.0;
-const AWAITS: f64 = 3.5;
+const WAITS: f64 = 3.5;
 const CAP: f64 = 10.0;
 /// The sizes of a turn's circle and a valve's diamond, from the middle; they are smaller where records are narrow.
 const TURN: f64 = 3.2;
@@ -35,6 +36,7 @@ text { font-family: 'DejaVu Sans', Verdana, Arial, sans-serif; font-size: 12px; 
 .tick { font-size: 10px; fill: #5c5c5c; text-anchor: middle }
 .label { text-anchor: end }
 .note { font-size: 10px; fill: #7a5a12; stroke: #fff; stroke-width: 3px; stroke-linejoin: round; paint-order: stroke }
+.guardnote { fill: #553a80 }
 .flagtext { font-size: 10px; fill: #7b1337 }
 .paper { fill: #fff }
 .stripe { fill: #f4f5f2 }
@@ -43,7 +45,8 @@ text { font-family: 'DejaVu Sans', Verdana, Arial, sans-serif; font-size: 12px; 
 .end { stroke: #8a8a8a; stroke-width: 1; stroke-dasharray: 4 3 }
 .burst { fill: #2f6690 }
 .queued { fill: #a9c4da }
-.awaits { fill: url(#hatch); stroke: #c9952b; stroke-width: 0.8 }
+.await { fill: url(#hatch); stroke: #c9952b; stroke-width: 0.8 }
+.guard { fill: url(#gate); stroke: #7d5ba6; stroke-width: 0.8 }
 .turn { fill: #fff; stroke: #b3541e; stroke-width: 1.6 }
 .arrow { stroke: #2e7d4f; stroke-width: 1.4 }
 .head { fill: #2e7d4f }
@@ -56,7 +59,9 @@ text { font-family: 'DejaVu Sans', Verdana, Arial, sans-serif; font-size: 12px; 
 
 const DEFINITIONS: &str = "<pattern id=\"hatch\" patternUnits=\"userSpaceOnUse\" width=\"5\" height=\"5\" \
     patternTransform=\"rotate(45)\"><rect width=\"5\" height=\"5\" fill=\"#fff6e0\"/>\
-    <rect width=\"2\" height=\"5\" fill=\"#dfa83a\"/></pattern>";
+    <rect width=\"2\" height=\"5\" fill=\"#dfa83a\"/></pattern>\
+    <pattern id=\"gate\" patternUnits=\"userSpaceOnUse\" width=\"4\" height=\"4\">\
+    <rect width=\"4\" height=\"4\" fill=\"#f3edfa\"/><rect width=\"1.6\" height=\"4\" fill=\"#9b7cc2\"/></pattern>";
 
 /// What the title tells.
 pub struct Heading<'a> {
@@ -151,8 +156,8 @@ fn bars(svg: &mut Svg, plan: &Plan, row: &Row) {
         let (class, half, tip) = match doing {
             Doing::Burst => ("burst", BURST, format!("task {task}: burst")),
             Doing::Queued => ("queued", QUEUED, format!("task {task}: in the ready queue")),
-            Doing::Awaits(Some(number)) => ("awaits", AWAITS, format!("task {task}: awaits {number}")),
-            Doing::Awaits(None) => ("awaits", AWAITS, format!("task {task}: waits at an await")),
+            Doing::Waits(Wait::Await(number)) => ("await", WAITS, format!("task {task}: awaits {number}")),
+            Doing::Waits(Wait::Guard) => ("guard", WAITS, format!("task {task}: waits at a guard")),
         };
         // The gap keeps two bursts apart that follow each other.
         let gap = if *doing == Doing::Burst { 0.75 } else { 0.0 };
@@ -178,14 +183,15 @@ fn arrow_at(svg: &mut Svg, x: f64, from: f64, to: f64, tip: &str) {
     svg.polygon("head", &[(x, to), (x - 3.5, to - 7.0), (x + 3.5, to - 7.0)], tip);
 }
 
-/// Turns, the end, valves and what is awaited.
+/// Turns, the end, valves and what is waited for.
 fn marks(svg: &mut Svg, plan: &Plan, row: &Row) {
     let Lane { turns, settings, ended, .. } = row.lane;
-    for (x, text) in &row.notes {
-        svg.text("note", (*x, row.middle + BURST + NOTE_SIZE), text);
+    for (x, wait) in &row.notes {
+        let class = if *wait == Wait::Guard { "note guardnote" } else { "note" };
+        svg.text(class, (*x, row.middle + BURST + NOTE_SIZE), &note_text(*wait));
     }
     for turn in turns {
-        let tip = format!("task {} turned: {} is not done", row.task, turn.awaited);
+        let tip = format!("task {} turned: {}", row.task, why(turn.wait));
         svg.circle("turn", (plan.x(turn.at), row.middle), (0.36 * plan.cell).clamp(0.8, TURN), &tip);
     }
     if let Some(end) = ended {
@@ -200,6 +206,26 @@ fn marks(svg: &mut Svg, plan: &Plan, row: &Row) {
         let tip = format!("task {} sets valve {} to {}", row.task, setting.valve, setting.value);
         diamond_at(svg, x, row.middle, (0.45 * plan.cell).clamp(1.5, VALVE), &tip);
     }
+}
+
+/// Why a task is turned.
+fn why(wait: Wait) -> String {
+    match wait {
+        Wait::Await(number) => format!("{number} is not done"),
+        Wait::Guard => "its guard is not true".to_string(),
+    }
+}
+
+/// A wait as the text under its bar has it.
+fn note_text(wait: Wait) -> String {
+    match wait {
+        Wait::Await(number) => format!("awaits {number}"),
+        Wait::Guard => "guard".to_string(),
+    }
+}
+
+fn note_width(wait: Wait) -> f64 {
+    text_width(&note_text(wait), NOTE_SIZE) + 4.0
 }
 
 fn flag_top(row: &Row, flag: usize) -> f64 {

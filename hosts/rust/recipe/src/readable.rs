@@ -138,9 +138,10 @@ impl<'a> Assembler<'a> {
             "spawn" => self.spawn(at, cursor),
             "if" => self.enclosing(Record::new(kind::IF, 0, 0, 0), at, cursor),
             "while" => self.enclosing(Record::new(kind::WHILE, 0, 0, 0), at, cursor),
+            "guard" => self.enclosing(Record::new(kind::GUARD, 0, 0, 0), at, cursor),
             "else" => Err(Fault::new(at, "there is no \"else\": write a second \"if\" with \"not\"")),
             _ => {
-                let known = "set, if, while, spawn, suspend, await or skip";
+                let known = "set, if, while, spawn, suspend, await, guard or skip";
                 Err(Fault::new(at, format!("{} is no statement: {known} is due here", quoted(word))))
             }
         }

@@ -27,6 +27,7 @@ pub mod kind {
     pub const VARIABLE: u8 = 10;
     pub const BINARY: u8 = 11;
     pub const UNARY: u8 = 12;
+    pub const GUARD: u8 = 13;
 }
 
 /// The operators of kind 12.
@@ -74,6 +75,7 @@ impl Record {
             kind::VARIABLE => "variable",
             kind::BINARY => "two operands",
             kind::UNARY => "one operand",
+            kind::GUARD => "guard",
             _ => "no kind",
         }
     }

@@ -1,4 +1,4 @@
-//! What each task does in the course of a run, read from its log.
+//! What each task does in the course of a run.
 //!
 //! Time is counted in log records: record `i` takes the time from `i` to `i + 1`, and what happens at it is placed in
 //! its middle. The run begins with a fresh state.
@@ -6,6 +6,9 @@
 use std::collections::BTreeMap;
 
 use recipe_runner::{Ending, Kind, Record};
+
+use crate::block::Wait;
+use crate::course::{Course, Seen};
 
 /// The first task, active in a fresh state.
 const MAIN: u16 = 1;
@@ -16,8 +19,8 @@ pub enum Doing {
     Burst,
     /// In the ready queue, after its spawn or a suspend.
     Queued,
-    /// In the queue at an await, of this number if the log names one.
-    Awaits(Option<i32>),
+    /// In the queue at an await or a guard.
+    Waits(Wait),
 }
 
 #[derive(Clone, Copy, Debug, PartialEq)]
@@ -32,7 +35,7 @@ pub struct Bar {
 #[derive(Clone, Copy, Debug, PartialEq)]
 pub struct Turn {
     pub at: f64,
-    pub awaited: i32,
+    pub wait: Wait,
 }
 
 #[derive(Clone, Copy, Debug, PartialEq)]
@@ -71,9 +74,9 @@ impl Lane {
     }
 
     /// Corrects the bar of a queued task that is seen to wait: its next statement did not change since it was put back.
-    fn stands_at_await(&mut self, awaited: Option<i32>) {
+    fn is_seen_to_wait(&mut self, wait: Wait) {
         if let Some(bar) = self.bars.last_mut().filter(|bar| bar.doing == Doing::Queued && bar.to.is_none()) {
-            bar.doing = Doing::Awaits(awaited);
+            bar.doing = Doing::Waits(wait);
         }
     }
 }
@@ -87,16 +90,16 @@ pub struct Timeline {
 }
 
 impl Timeline {
-    pub fn of(log: impl Iterator<Item = Record>, ending: Ending) -> Timeline {
+    pub fn of(course: &Course) -> Timeline {
         let mut timeline = Timeline { lanes: BTreeMap::new(), spawns: Vec::new(), records: 0 };
         timeline.lane(MAIN).begin(Doing::Burst, 0.0);
-        for record in log {
-            timeline.add(record);
+        for seen in &course.seen {
+            timeline.add(*seen);
             timeline.records += 1;
         }
-        if ending == Ending::Stuck {
-            // Every task still queued stands at an await.
-            timeline.lanes.values_mut().for_each(|lane| lane.stands_at_await(None));
+        if course.ending == Ending::Stuck {
+            // Every queued task waits at what it stands at.
+            course.standing.iter().for_each(|(task, wait)| timeline.lane(*task).is_seen_to_wait(*wait));
         }
         timeline
     }
@@ -105,17 +108,19 @@ impl Timeline {
         self.lanes.entry(task).or_default()
     }
 
-    fn add(&mut self, Record { kind, task, valve, value }: Record) {
+    fn add(&mut self, Seen { record, at_guard }: Seen) {
+        let Record { kind, task, valve, value } = record;
+        let wait = if at_guard { Wait::Guard } else { Wait::Await(value) };
         let begin = self.records as f64;
         let (at, end) = (begin + 0.5, begin + 1.0);
         let lane = self.lane(task);
         match kind {
             Kind::Taken => lane.begin(Doing::Burst, begin),
             Kind::Gave => lane.begin(Doing::Queued, end),
-            Kind::Waits => lane.begin(Doing::Awaits(Some(value)), end),
+            Kind::Waits => lane.begin(Doing::Waits(wait), end),
             Kind::Turned => {
-                lane.stands_at_await(Some(value));
-                lane.turns.push(Turn { at, awaited: value });
+                lane.is_seen_to_wait(wait);
+                lane.turns.push(Turn { at, wait });
             }
             Kind::Valve => lane.settings.push(Setting { at, valve, value }),
             Kind::Ended => {
@@ -136,24 +141,33 @@ impl Timeline {
 mod tests {
     use super::*;
 
+    /// The course with these records: kind, task, valve, value, and whether it is a wait's at a guard.
+    fn course(log: &[(Kind, u16, u8, i32, bool)], ending: Ending, standing: &[(u16, Wait)]) -> Course {
+        let seen = log.iter().map(|(kind, task, valve, value, at_guard)| Seen {
+            record: Record { kind: *kind, task: *task, valve: *valve, value: *value },
+            at_guard: *at_guard,
+        });
+        Course { seen: seen.collect(), ending, steps: 0, standing: standing.iter().copied().collect() }
+    }
+
     #[test]
     fn the_log_of_recipe_a_gives_two_lanes() {
         let log = [
-            (Kind::Spawned, 1, 0, 2),
-            (Kind::Waits, 1, 0, 2),
-            (Kind::Taken, 2, 0, 0),
-            (Kind::Valve, 2, 1, 5),
-            (Kind::Ended, 2, 0, 0),
-            (Kind::Taken, 1, 0, 0),
-            (Kind::Valve, 1, 0, 1),
-            (Kind::Ended, 1, 0, 0),
+            (Kind::Spawned, 1, 0, 2, false),
+            (Kind::Waits, 1, 0, 2, false),
+            (Kind::Taken, 2, 0, 0, false),
+            (Kind::Valve, 2, 1, 5, false),
+            (Kind::Ended, 2, 0, 0, false),
+            (Kind::Taken, 1, 0, 0, false),
+            (Kind::Valve, 1, 0, 1, false),
+            (Kind::Ended, 1, 0, 0, false),
         ];
-        let log = log.into_iter().map(|(kind, task, valve, value)| Record { kind, task, valve, value });
-        let timeline = Timeline::of(log, Ending::Finished);
+        let timeline = Timeline::of(&course(&log, Ending::Finished, &[]));
         assert_eq!(timeline.records, 8);
         assert_eq!(timeline.spawns, [Spawn { at: 0.5, spawner: 1, spawned: 2 }]);
         let bar = |doing, from, to| Bar { doing, from, to: Some(to) };
-        let main = [bar(Doing::Burst, 0.0, 2.0), bar(Doing::Awaits(Some(2)), 2.0, 5.0), bar(Doing::Burst, 5.0, 8.0)];
+        let waits = Doing::Waits(Wait::Await(2));
+        let main = [bar(Doing::Burst, 0.0, 2.0), bar(waits, 2.0, 5.0), bar(Doing::Burst, 5.0, 8.0)];
         assert_eq!(timeline.lanes[&1].bars, main);
         assert_eq!(timeline.lanes[&1].ended, Some(8.0));
         assert_eq!(timeline.lanes[&2].bars, [bar(Doing::Queued, 0.5, 2.0), bar(Doing::Burst, 2.0, 5.0)]);
@@ -162,12 +176,26 @@ mod tests {
 
     #[test]
     fn a_turn_and_a_stuck_end_tell_that_a_task_waits() {
-        let log = [(Kind::Spawned, 1, 2), (Kind::Spawned, 1, 3), (Kind::Ended, 1, 0), (Kind::Turned, 2, 9)];
-        let log = log.map(|(kind, task, value)| Record { kind, task, valve: 0, value });
-        let stuck = Timeline::of(log.into_iter(), Ending::Stuck);
-        assert_eq!(stuck.lanes[&2].bars, [Bar { doing: Doing::Awaits(Some(9)), from: 0.5, to: None }]);
-        assert_eq!(stuck.lanes[&3].bars, [Bar { doing: Doing::Awaits(None), from: 1.5, to: None }]);
-        let paused = Timeline::of(log.into_iter(), Ending::Paused);
-        assert_eq!(paused.lanes[&3].bars, [Bar { doing: Doing::Queued, from: 1.5, to: None }]);
+        let spawned = [2, 3, 4].map(|task| (Kind::Spawned, 1, 0, task, false));
+        let log = [&spawned[..], &[(Kind::Ended, 1, 0, 0, false), (Kind::Turned, 2, 0, 9, false)]].concat();
+        let standing = [(2, Wait::Await(8)), (3, Wait::Guard), (4, Wait::Await(0))];
+        let bar = |doing, from| [Bar { doing, from, to: None }];
+        let stuck = Timeline::of(&course(&log, Ending::Stuck, &standing));
+        // The number at the turn stays.
+        assert_eq!(stuck.lanes[&2].bars, bar(Doing::Waits(Wait::Await(9)), 0.5));
+        assert_eq!(stuck.lanes[&3].bars, bar(Doing::Waits(Wait::Guard), 1.5));
+        assert_eq!(stuck.lanes[&4].bars, bar(Doing::Waits(Wait::Await(0)), 2.5));
+        let paused = Timeline::of(&course(&log, Ending::Paused, &standing));
+        assert_eq!(paused.lanes[&3].bars, bar(Doing::Queued, 1.5));
+    }
+
+    #[test]
+    fn a_guard_is_told_from_an_await_of_0() {
+        for (at_guard, wait) in [(true, Wait::Guard), (false, Wait::Await(0))] {
+            let log = [(Kind::Waits, 1, 0, 0, at_guard), (Kind::Turned, 1, 0, 0, at_guard)];
+            let main = &Timeline::of(&course(&log, Ending::Paused, &[])).lanes[&1];
+            assert_eq!(main.bars[1], Bar { doing: Doing::Waits(wait), from: 1.0, to: None });
+            assert_eq!(main.turns, [Turn { at: 1.5, wait }]);
+        }
     }
 }

@@ -20,6 +20,7 @@ finished 8
 ";
 const ROW_A: &str = "procedure main\n  spawn x press 5\n  await x\n  set valve0 1\nprocedure press p\n  set valve1 p\n";
 const STUCK: &str = "procedure main\n  await x\n";
+const AT_GUARD: &str = "procedure main\n  guard x\n";
 const BAD: &str = "procedure main\n  spawn x press 5\n";
 /// A table with a set that encloses nothing.
 const REFUSED: [u8; 16] = [1, 0, 1, 0, 0, 0, 0, 0, 3, 8, 0, 0, 0, 0, 0, 0];
@@ -45,6 +46,44 @@ fn recipe_a_prints_as_in_the_document() {
     }
     assert_eq!(stdout(&recipe(&d, &["run", "--quiet", "a.table"], b"")), "finished 8\n");
     assert_eq!(files(&d), ["a.recipe", "a.table"]);
+}
+
+#[test]
+fn a_wait_at_a_guard_prints_0() {
+    let d = directory("guard");
+    fs::write(d.join("held.recipe"), AT_GUARD).unwrap();
+    assert_eq!(stdout(&recipe(&d, &["run", "held.recipe"], b"")), "waits 1 0 0\nstuck 1\n");
+    let listed = "variable v8 8\n\nprocedure main\n    guard v8\n";
+    assert_eq!(stdout(&recipe(&d, &["dis", "held.recipe"], b"")), listed);
+    fs::write(d.join("past.recipe"), "procedure main\n  guard not x\n  set valve0 1\n").unwrap();
+    let printed = "waits 1 0 0\ntaken 1 0 0\nvalve 1 0 1\nended 1 0 0\nfinished 4\n";
+    assert_eq!(stdout(&recipe(&d, &["run", "past.recipe"], b"")), printed);
+}
+
+#[test]
+fn a_timeline_tells_guards_from_awaits() {
+    let d = directory("waits");
+    for (text, told, other) in [
+        (AT_GUARD, "task 1: waits at a guard", "task 1: awaits"),
+        (STUCK, "task 1: awaits 0", "task 1: waits at a guard"),
+    ] {
+        fs::write(d.join("t.recipe"), text).unwrap();
+        let drawn = stdout(&recipe(&d, &["timeline", "t.recipe"], b""));
+        assert!(drawn.contains(told) && !drawn.contains(other), "{drawn}");
+    }
+}
+
+/// A saved state whose variable is written between two calls, as by a host with a sensor.
+#[test]
+fn a_guard_passes_once_the_host_has_written_its_variable() {
+    let d = directory("sensor");
+    fs::write(d.join("held.recipe"), AT_GUARD).unwrap();
+    assert_eq!(stdout(&recipe(&d, &["run", "held.recipe", "--save", "state"], b"")), "waits 1 0 0\nstuck 1\n");
+    let mut state = fs::read(d.join("state")).unwrap();
+    state[264 + 4 * 8] = 1;
+    fs::write(d.join("state"), state).unwrap();
+    let resumed = recipe(&d, &["run", "held.recipe", "--resume", "state"], b"");
+    assert_eq!(stdout(&resumed), "taken 1 0 0\nended 1 0 0\nfinished 2\n");
 }
 
 #[test]
@@ -200,6 +239,23 @@ fn a_full_log_prints_its_records() {
     assert_eq!(ran.lines().last(), Some("logfull 8193"));
     let short = stdout(&recipe(&d, &["run", "v.recipe", "--log", "1", "--budget", "9"], b""));
     assert_eq!(short, "valve 1 0 1\nlogfull 3\n");
+}
+
+#[test]
+fn budget_and_log_hold_for_a_timeline() {
+    let d = directory("limits");
+    fs::write(d.join("g.recipe"), "procedure main\n  while 1\n    guard 1\n").unwrap();
+    for (budget, log, title, records) in [
+        ("100", "5", "logfull, 8 steps", "5 log records"),
+        ("8", "5", "paused, 8 steps", "5 log records"),
+        ("6", "5", "paused, 6 steps", "4 log records"),
+        ("100", "0", "logfull, 1 step", "0 log records"),
+        ("0", "0", "paused, 0 steps", "0 log records"),
+    ] {
+        let drawn = stdout(&recipe(&d, &["timeline", "g.recipe", "--budget", budget, "--log", log], b""));
+        assert!(drawn.contains(&format!("g.recipe: {title}<")), "{budget} {log}");
+        assert!(drawn.contains(&format!(" {records}, budget {budget}.")), "{budget} {log}");
+    }
 }
 
 #[test]

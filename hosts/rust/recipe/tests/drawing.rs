@@ -3,9 +3,9 @@
 mod common;
 
 use recipe::asm::assemble;
+use recipe::course::Course;
 use recipe::picture::{draw, Heading};
 use recipe::timeline::Timeline;
-use recipe_runner::{records, State};
 
 const TWO: &str = "procedure main\n  spawn x press 5\n  await x\n  set valve0 1\nprocedure press p\n  set valve1 p\n";
 
@@ -65,12 +65,41 @@ procedure work
     skip
 ";
 
+/// Guards: one that becomes true, one that does not, one that its task stands at from its spawn on; and an await of 0.
+const GUARDS: &str = "\
+procedure main
+    spawn a pass 0
+    spawn b hold 0
+    spawn c late 0
+    suspend
+    set pressure 3
+    await nobody
+procedure pass
+    guard 2 < pressure
+    set valve1 1
+procedure hold
+    skip
+    guard 3 < pressure
+procedure late
+    guard 4 < pressure
+";
+
+/// An await of 0 that is turned, and one that its task stands at when all is stuck.
+const ZERO: &str = "\
+procedure main
+    spawn a rest 0
+    await nobody
+procedure rest
+    suspend
+    spawn b late 0
+procedure late
+    await nobody
+";
+
 fn picture(text: &str, budget: u32) -> (String, Timeline) {
-    let table = assemble(text).unwrap();
-    let mut log = vec![0; 8 * 4_096];
-    let ran = State::start(&table).unwrap().run(&table, budget, &mut log).unwrap();
-    let timeline = Timeline::of(records(&log, ran.records), ran.ending);
-    let heading = Heading { name: "a<b&c>.recipe", ending: ran.ending, steps: ran.steps, budget };
+    let course = Course::of(&assemble(text).unwrap(), budget, &mut [0; 8 * 4_096]).unwrap();
+    let timeline = Timeline::of(&course);
+    let heading = Heading { name: "a<b&c>.recipe", ending: course.ending, steps: course.steps, budget };
     (draw(&timeline, &heading), timeline)
 }
 
@@ -103,7 +132,7 @@ fn boxes(document: &str) -> Vec<(f64, f64, f64, f64, String)> {
         let class = head.split('"').nth(1).unwrap();
         let size = match class {
             "title" => 17.0,
-            "tick" | "note" | "flagtext" => 10.0,
+            "tick" | "note" | "note guardnote" | "flagtext" => 10.0,
             _ => 12.0,
         };
         let text = text.replace("&lt;", "<").replace("&gt;", ">").replace("&amp;", "&");
@@ -132,9 +161,16 @@ fn apart(document: &str) {
 
 #[test]
 fn pictures_are_well_formed_and_texts_apart() {
-    for (text, budget, tasks) in
-        [(TWO, 100, 2), (TWO, 0, 1), (TWELVE, 10_000, 12), (MANY, 10_000, 32), (MANY, 150, 32), (SHORT, 10_000, 32)]
-    {
+    for (text, budget, tasks) in [
+        (TWO, 100, 2),
+        (TWO, 0, 1),
+        (TWELVE, 10_000, 12),
+        (MANY, 10_000, 32),
+        (MANY, 150, 32),
+        (SHORT, 10_000, 32),
+        (GUARDS, 10_000, 4),
+        (ZERO, 10_000, 3),
+    ] {
         let (document, timeline) = picture(text, budget);
         assert_eq!(timeline.lanes.len(), tasks);
         well_formed(&document);
@@ -160,4 +196,31 @@ fn the_picture_tells_what_happened() {
     }
     let (document, _) = picture(MANY, 10_000);
     assert!(document.contains("turned: "));
+}
+
+#[test]
+fn guards_and_awaits_are_told_apart() {
+    let (document, _) = picture(GUARDS, 10_000);
+    for part in [
+        "stuck, ",
+        ">waits at an await<",
+        ">waits at a guard<",
+        ">awaits 0<",
+        ">guard<",
+        "task 1: awaits 0",
+        "task 2: waits at a guard",
+        "task 2 turned: its guard is not true",
+        "task 3: waits at a guard",
+        "task 4: waits at a guard",
+    ] {
+        assert!(document.contains(part), "{part}");
+    }
+    assert!(!document.contains("task 2: awaits"));
+    assert!(!document.contains("task 1: waits at a guard"));
+    let (document, _) = picture(ZERO, 10_000);
+    for part in ["task 1: awaits 0", "task 1 turned: 0 is not done", "task 3: awaits 0"] {
+        assert!(document.contains(part), "{part}");
+    }
+    // The legend has the only one.
+    assert_eq!(document.matches("class=\"guard\"").count(), 1);
 }

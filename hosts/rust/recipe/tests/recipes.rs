@@ -6,7 +6,7 @@ use std::path::{Path, PathBuf};
 use recipe::asm::assemble;
 use recipe_runner::{Ending, State};
 
-const RECIPES: [(&str, Ending, u32); 8] = [
+const RECIPES: [(&str, Ending, u32); 9] = [
     ("a", Ending::Finished, 8),
     ("b", Ending::Finished, 9),
     ("c", Ending::Stuck, 1),
@@ -15,6 +15,7 @@ const RECIPES: [(&str, Ending, u32); 8] = [
     ("f", Ending::Tasks, 63),
     ("press", Ending::Finished, 8),
     ("deadlock", Ending::Stuck, 9),
+    ("guard", Ending::Finished, 22),
 ];
 
 fn directory() -> PathBuf {

@@ -6,10 +6,11 @@ use std::collections::BTreeSet;
 
 use common::{Generator, Random};
 use recipe::asm::assemble;
+use recipe::course::Course;
 use recipe::picture::{draw, Heading};
 use recipe::timeline::Timeline;
 use recipe::{listing, raw};
-use recipe_runner::{records, State};
+use recipe_runner::State;
 
 const TABLES: usize = 4_000;
 
@@ -32,7 +33,7 @@ fn generated_tables_come_back() {
     for (kind, first, last) in [(3, 0, 64), (6, 8, 64), (8, 0, 64), (10, 0, 64), (11, 0, 7), (12, 0, 1)] {
         assert!((first..=last).all(|name| seen.contains(&(kind, name))), "kind {kind}");
     }
-    assert!([1, 2, 4, 5, 7, 9].iter().all(|kind| seen.contains(&(*kind, 0))));
+    assert!([1, 2, 4, 5, 7, 9, 13].iter().all(|kind| seen.contains(&(*kind, 0))));
     assert!(longest > 8_000, "{longest}");
 }
 
@@ -49,6 +50,7 @@ fn the_extremes_come_back() {
         format!("procedure main\n{variables}"),
         format!("procedure main\n  set valve0 {}x{}", "-(".repeat(14), ")".repeat(14)),
         format!("procedure main\n  set valve0 {}x", "not ".repeat(14)),
+        format!("procedure main\n  guard {}x", "not ".repeat(14)),
     ] {
         let table = assemble(&text).unwrap();
         assert_eq!(assemble(&listing::list(&table).unwrap()).unwrap(), table);
@@ -83,10 +85,10 @@ fn tables_of_any_content_are_survived() {
 
 /// What random texts are made of.
 #[rustfmt::skip]
-const PIECES: [&str; 35] = [
-    "procedure ", "main", "\n", "\n ", "\n  ", "\n    ", " set ", " if ", " while ", " spawn ", " await ", " skip",
-    " suspend", " x ", " y ", "valve3 ", " 1 ", " -5 ", "(", ")", " + ", " - ", " < ", " == ", " not ", " and ", "#",
-    "é", "\t", "variable ", "1(0,0,0) ", "parameter ", "99999999999 ", ",", "\u{0}",
+const PIECES: [&str; 36] = [
+    "procedure ", "main", "\n", "\n ", "\n  ", "\n    ", " set ", " if ", " while ", " spawn ", " await ", " guard ",
+    " skip", " suspend", " x ", " y ", "valve3 ", " 1 ", " -5 ", "(", ")", " + ", " - ", " < ", " == ", " not ", " and ",
+    "#", "é", "\t", "variable ", "1(0,0,0) ", "parameter ", "99999999999 ", ",", "\u{0}",
 ];
 
 #[test]
@@ -110,12 +112,11 @@ fn texts_of_any_content_are_survived() {
 fn pictures_of_generated_tables_can_be_drawn() {
     let mut generator = Generator::new(4);
     for _ in 0..300 {
-        let table = generator.table();
-        let mut log = vec![0; 8 * 500];
-        let ran = State::start(&table).unwrap().run(&table, 2_000, &mut log).unwrap();
-        let timeline = Timeline::of(records(&log, ran.records), ran.ending);
-        assert_eq!(timeline.records, ran.records as usize);
-        let picture = draw(&timeline, &Heading { name: "<&>", ending: ran.ending, steps: ran.steps, budget: 2_000 });
+        let course = Course::of(&generator.table(), 2_000, &mut [0; 8 * 500]).unwrap();
+        let timeline = Timeline::of(&course);
+        assert_eq!(timeline.records, course.seen.len());
+        let heading = Heading { name: "<&>", ending: course.ending, steps: course.steps, budget: 2_000 };
+        let picture = draw(&timeline, &heading);
         assert!(picture.contains("&lt;&amp;&gt;"));
     }
 }

@@ -1,4 +1,4 @@
-//! The document's rows in both notations.
+//! The document's rows, and one with a guard, in both notations.
 
 mod common;
 
@@ -8,7 +8,7 @@ use recipe_runner::{records, Ending, State};
 
 type Row = (&'static str, &'static str, &'static [(u8, u8, u16, i32)], Ending, u32);
 
-const ROWS: [Row; 7] = [
+const ROWS: [Row; 8] = [
     (
         "1(0,5,0) 6(8,1,1) 9(0,0,5) 8(8,0,0) 3(0,1,0) 9(0,0,1) 1(0,2,0) 3(1,1,0) 10(64,0,0)",
         "procedure main
@@ -51,6 +51,25 @@ procedure press p
         &[(1, 0, 5, 0), (5, 0, 4, 0), (9, 0, 0, 1), (6, 8, 1, 1), (9, 0, 0, 0), (7, 0, 0, 0), (1, 0, 0, 0)],
         Ending::Spent,
         393_205,
+    ),
+    (
+        "1(0,6,0) 6(8,1,1) 9(0,0,3) 13(0,3,0) 11(4,2,0) 9(0,0,2) 10(9,0,0) 1(0,3,0) 7(0,0,0) 3(9,1,0) 10(64,0,0)",
+        "procedure main\n spawn x raise 3\n guard 2 < pressure\nprocedure raise p\n suspend\n set pressure p",
+        &[
+            (1, 0, 6, 0),
+            (6, 8, 1, 1),
+            (9, 0, 0, 3),
+            (13, 0, 3, 0),
+            (11, 4, 2, 0),
+            (9, 0, 0, 2),
+            (10, 9, 0, 0),
+            (1, 0, 3, 0),
+            (7, 0, 0, 0),
+            (3, 9, 1, 0),
+            (10, 64, 0, 0),
+        ],
+        Ending::Finished,
+        10,
     ),
 ];
 

@@ -76,7 +76,7 @@ pub enum Ending {
     Finished,
     /// The budget is used up.
     Paused,
-    /// Every task waits, and none can ever go on.
+    /// Every task waits for a number that is not done or for an untrue guard.
     Stuck,
     /// The next step is a spawn, and 32 tasks are live.
     Tasks,
@@ -236,7 +236,8 @@ impl fmt::Display for Kind {
     }
 }
 
-/// A log record: the task acting, the valve (0 in other kinds), and the new number, the number awaited or the value set.
+/// A log record: the task acting, the valve (0 in other kinds), and the new number, the number awaited (0 at a guard)
+/// or the value set.
 #[derive(Clone, Copy, Debug, PartialEq, Eq)]
 pub struct Record {
     pub kind: Kind,
@@ -295,6 +296,24 @@ mod tests {
         assert_eq!(ran, Ran { ending: Ending::Finished, steps: 8, records: 8 });
         let last = records(&log, ran.records).last().unwrap();
         assert_eq!(last.to_string(), "ended 1 0 0");
+    }
+
+    /// Main waits at a guard over variable 8.
+    const GUARD: [[u8; 8]; 3] = [[1, 0, 2, 0, 0, 0, 0, 0], [13, 0, 1, 0, 0, 0, 0, 0], [10, 8, 0, 0, 0, 0, 0, 0]];
+
+    #[test]
+    fn a_guard_is_tested_anew_by_each_call() {
+        let table = GUARD.concat();
+        let mut log = [0; 64];
+        let mut state = State::start(&table).unwrap();
+        let ran = state.run(&table, 100, &mut log).unwrap();
+        assert_eq!(ran, Ran { ending: Ending::Stuck, steps: 1, records: 1 });
+        assert_eq!(records(&log, 1).next().unwrap().to_string(), "waits 1 0 0");
+        // What a host with a sensor does between two calls.
+        let mut block = *state.as_bytes();
+        block[264 + 4 * 8] = 1;
+        let ran = State::from_bytes(&block).unwrap().run(&table, 100, &mut log).unwrap();
+        assert_eq!(ran, Ran { ending: Ending::Finished, steps: 2, records: 2 });
     }
 
     #[test]

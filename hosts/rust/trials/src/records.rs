@@ -17,6 +17,7 @@ pub const CONSTANT: u8 = 9;
 pub const READ: u8 = 10;
 pub const TWO: u8 = 11;
 pub const ONE: u8 = 12;
+pub const GUARD: u8 = 13;
 
 /// The bytes of a table.
 pub fn table(rows: &[Row]) -> Vec<u8> {
@@ -74,6 +75,10 @@ pub fn spawn(name: u8, number: i32, argument: Part) -> Part {
     node(SPAWN, name, number, &[argument])
 }
 
+pub fn guard(test: Part) -> Part {
+    node(GUARD, 0, 0, &[test])
+}
+
 pub fn constant(value: i32) -> Part {
     leaf(CONSTANT, 0, value)
 }
@@ -103,6 +108,7 @@ pub fn sample(kind: u8) -> Part {
         READ => read(8),
         TWO => two(0, constant(3), constant(4)),
         ONE => one(0, constant(3)),
+        GUARD => guard(constant(3)),
         _ => leaf(kind, 0, 0),
     }
 }

@@ -12,7 +12,7 @@ returns : tie.Need-returns
 returns c = search needs
 
 returns-2 : tie.Need-returns-2
-returns-2 c = sym (elsewhere nameLeasts (6 ∷ []) 13 refl _ (c .before .pre) (rw (ne-eqb _ _ (c .if1 .left)) refl))
+returns-2 c = sym (elsewhere nameLeasts (6 ∷ []) 14 refl _ (c .before .pre) (rw (ne-eqb _ _ (c .if1 .left)) refl))
 
 pub name-least-spec : {M : Type 1} → statement M
 name-least-spec = tie.close (tie.spec returns returns-2)

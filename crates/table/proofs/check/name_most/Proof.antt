@@ -27,7 +27,7 @@ returns-6 : tie.Need-returns-6
 returns-6 c = search needs
 
 returns-7 : tie.Need-returns-7
-returns-7 c = sym (elsewhere nameMosts (3 ∷ 6 ∷ 8 ∷ 10 ∷ 11 ∷ 12 ∷ []) 13 refl _ (c .before .before .before .before .before .before .pre) (rw (ne-eqb _ _ (c .before .before .before .before .before .if1 .left), ne-eqb _ _ (c .before .before .before .before .if2 .left), ne-eqb _ _ (c .before .before .before .if3 .left), ne-eqb _ _ (c .before .before .if4 .left), ne-eqb _ _ (c .before .if5 .left), ne-eqb _ _ (c .if6 .left)) refl))
+returns-7 c = sym (elsewhere nameMosts (3 ∷ 6 ∷ 8 ∷ 10 ∷ 11 ∷ 12 ∷ []) 14 refl _ (c .before .before .before .before .before .before .pre) (rw (ne-eqb _ _ (c .before .before .before .before .before .if1 .left), ne-eqb _ _ (c .before .before .before .before .if2 .left), ne-eqb _ _ (c .before .before .before .if3 .left), ne-eqb _ _ (c .before .before .if4 .left), ne-eqb _ _ (c .before .if5 .left), ne-eqb _ _ (c .if6 .left)) refl))
 
 pub name-most-spec : {M : Type 1} → statement M
 name-most-spec =

@@ -15,7 +15,7 @@ returns-2 : tie.Need-returns-2
 returns-2 c = search needs
 
 returns-3 : tie.Need-returns-3
-returns-3 c = sym (elsewhere valueMosts (6 ∷ 9 ∷ []) 13 refl _ (c .before .before .pre) (rw (ne-eqb _ _ (c .before .if1 .left), ne-eqb _ _ (c .if2 .left)) refl))
+returns-3 c = sym (elsewhere valueMosts (6 ∷ 9 ∷ []) 14 refl _ (c .before .before .pre) (rw (ne-eqb _ _ (c .before .if1 .left), ne-eqb _ _ (c .if2 .left)) refl))
 
 pub value-most-spec : {M : Type 1} → statement M
 value-most-spec = tie.close (tie.spec returns returns-2 returns-3)

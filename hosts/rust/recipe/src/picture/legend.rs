@@ -1,7 +1,7 @@
 //! What the marks of the picture mean.
 
 use super::plan::{Plan, MARGIN};
-use super::{arrow_at, cap_at, diamond_at, flag_at, AWAITS, BURST, QUEUED, TEXT_SIZE, TURN, VALVE};
+use super::{arrow_at, cap_at, diamond_at, flag_at, BURST, QUEUED, TEXT_SIZE, TURN, VALVE, WAITS};
 use crate::svg::Svg;
 
 /// The height of a line of the legend, and the width of an item and of its symbol.
@@ -15,7 +15,8 @@ const TOP: f64 = 78.0;
 enum Symbol {
     Burst,
     Queued,
-    Awaits,
+    Await,
+    Guard,
     Turn,
     Spawn,
     Cap,
@@ -23,10 +24,11 @@ enum Symbol {
     End,
 }
 
-const ITEMS: [(Symbol, &str); 8] = [
+const ITEMS: [(Symbol, &str); 9] = [
     (Symbol::Burst, "burst"),
     (Symbol::Queued, "in the ready queue"),
-    (Symbol::Awaits, "waits at an await"),
+    (Symbol::Await, "waits at an await"),
+    (Symbol::Guard, "waits at a guard"),
     (Symbol::Turn, "turned to the back"),
     (Symbol::Spawn, "spawn"),
     (Symbol::Cap, "end of the task"),
@@ -37,8 +39,8 @@ const ITEMS: [(Symbol, &str); 8] = [
 /// Where each item begins, and the middle of its line, in a picture of this width.
 fn places(width: f64) -> impl Iterator<Item = (f64, f64)> {
     let columns = (((width - 2.0 * MARGIN) / COLUMN) as usize).clamp(1, ITEMS.len());
-    // Two full lines look better than a long and a short one.
-    let columns = if columns < ITEMS.len() { columns.min(ITEMS.len() / 2) } else { columns };
+    // Lines of about one length look better than long ones and a short one.
+    let columns = ITEMS.len().div_ceil(ITEMS.len().div_ceil(columns));
     (0..ITEMS.len()).map(move |index| {
         let (line, column) = (index / columns, index % columns);
         (MARGIN + column as f64 * COLUMN, TOP + line as f64 * LINE)
@@ -63,9 +65,10 @@ impl Symbol {
         match self {
             Symbol::Burst => svg.rect("burst", bar(BURST), ""),
             Symbol::Queued => svg.rect("queued", bar(QUEUED), ""),
-            Symbol::Awaits => svg.rect("awaits", bar(AWAITS), ""),
+            Symbol::Await => svg.rect("await", bar(WAITS), ""),
+            Symbol::Guard => svg.rect("guard", bar(WAITS), ""),
             Symbol::Turn => {
-                svg.rect("awaits", bar(AWAITS), "");
+                svg.rect("await", bar(WAITS), "");
                 svg.circle("turn", (x + 15.0, y), TURN, "");
             }
             Symbol::Spawn => arrow_at(svg, x + 15.0, y - 8.0, y + 9.0, ""),

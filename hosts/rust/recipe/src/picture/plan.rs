@@ -1,9 +1,9 @@
 //! Where everything of the picture stands.
 
-use super::{flag_text, flag_width, BURST, CAP, FLAG_ROW, NOTE_SIZE};
+use super::{flag_text, flag_width, note_width, BURST, CAP, FLAG_ROW, NOTE_SIZE};
+use crate::block::Wait;
 use crate::picture::legend;
-use crate::svg::text_width;
-use crate::timeline::{Bar, Doing, Lane, Timeline};
+use crate::timeline::{Doing, Lane, Timeline};
 
 /// The space around the picture, and where the lanes begin, behind their labels.
 pub const MARGIN: f64 = 20.0;
@@ -36,8 +36,8 @@ pub struct Row<'t> {
     pub middle: f64,
     /// The row of each setting's flag, from the bar upwards.
     pub flags: Vec<usize>,
-    /// What is awaited, where there is room to say it.
-    pub notes: Vec<(f64, String)>,
+    /// What is waited for, where there is room to say it.
+    pub notes: Vec<(f64, Wait)>,
 }
 
 pub struct Plan<'t> {
@@ -108,13 +108,13 @@ impl<'t> Plan<'t> {
     }
 
     /// The texts under the bars of a waiting task that are long enough for them.
-    fn notes(&self, lane: &Lane) -> Vec<(f64, String)> {
+    fn notes(&self, lane: &Lane) -> Vec<(f64, Wait)> {
         let mut notes = Vec::new();
         for bar in &lane.bars {
-            if let Some(text) = note(bar) {
+            if let Doing::Waits(wait) = bar.doing {
                 let (left, right) = (self.x(bar.from), bar.to.map_or(self.end, |to| self.x(to)));
-                if right - left >= note_width(&text) {
-                    notes.push((left + 2.0, text));
+                if right - left >= note_width(wait) {
+                    notes.push((left + 2.0, wait));
                 }
             }
         }
@@ -146,22 +146,13 @@ impl<'t> Plan<'t> {
     }
 }
 
-/// What a waiting task's bar says.
-fn note(bar: &Bar) -> Option<String> {
-    match bar.doing {
-        Doing::Awaits(Some(number)) => Some(format!("awaits {number}")),
-        _ => None,
-    }
-}
-
-fn note_width(text: &str) -> f64 {
-    text_width(text, NOTE_SIZE) + 4.0
-}
-
 /// How far bars reach past the run's end: enough to tell what the tasks then wait for.
 fn tail(timeline: &Timeline, cell: f64) -> f64 {
     let last = timeline.lanes.values().filter_map(|lane| lane.bars.last()).filter(|bar| bar.to.is_none());
-    let widths = last.filter_map(note).map(|text| note_width(&text));
+    let widths = last.filter_map(|bar| match bar.doing {
+        Doing::Waits(wait) => Some(note_width(wait)),
+        _ => None,
+    });
     widths.fold(cell.clamp(12.0, 28.0), f64::max)
 }
 

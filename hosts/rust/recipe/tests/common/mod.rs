@@ -101,8 +101,11 @@ impl Generator {
     }
 
     fn statement(&mut self, depth: usize) {
-        let kind =
-            if depth < DEEPEST { self.random.pick(&[2, 3, 3, 4, 5, 6, 7, 8]) } else { self.random.pick(&[2, 7, 8]) };
+        let kind = if depth < DEEPEST {
+            self.random.pick(&[2, 3, 3, 4, 5, 6, 7, 8, 13])
+        } else {
+            self.random.pick(&[2, 7, 8])
+        };
         let name = self.random.below(65) as u8;
         match kind {
             3 => self.enclosing(3, name, 0, |g| g.expression(depth + 1)),
@@ -115,6 +118,7 @@ impl Generator {
                 self.enclosing(6, name, procedure as i32, |g| g.expression(depth + 1));
             }
             8 => self.records.push(record(8, name, 0, 0)),
+            13 => self.enclosing(13, 0, 0, |g| g.expression(depth + 1)),
             _ => self.records.push(record(kind, 0, 0, 0)),
         }
     }

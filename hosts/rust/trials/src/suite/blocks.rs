@@ -4,21 +4,21 @@ use super::rows::{skips, A};
 use super::Suite;
 use crate::block::{block, fresh, log, old, put, put_number, put_place, Task, BLOCK};
 use crate::records::{
-    constant, one, procedure, read, set, skip, spawn, suspend, table, test, two, wait, Part, IF, WHILE,
+    constant, guard, one, procedure, read, set, skip, spawn, suspend, table, test, two, wait, Part, IF, WHILE,
 };
 
-/// A recipe with every kind of record, 22 in all. Its expressions are at 2 to 4, 6, 8, 9, 12 to 14, 19 and 21; its
+/// A recipe with every kind of record, 24 in all. Its expressions are at 2 to 4, 6, 8, 9, 12 to 14, 19, 21 and 23; its
 /// procedures are at 0 and 16.
 pub fn every_kind() -> Part {
     let body =
         [spawn(8, 1, constant(5)), test(IF, one(1, read(8)), &[skip()]), set(9, two(0, read(9), constant(1))), wait(8)];
     let main = procedure(&[test(WHILE, two(4, read(9), constant(3)), &body)]);
-    let child = procedure(&[suspend(), spawn(64, 1, read(64)), set(0, read(64))]);
+    let child = procedure(&[suspend(), spawn(64, 1, read(64)), set(0, read(64)), guard(read(9))]);
     [main, child].concat()
 }
 
 /// Places of the recipe, one after the other.
-const PLACES: [u16; 6] = [1, 5, 7, 11, 17, 20];
+const PLACES: [u16; 7] = [1, 5, 7, 11, 17, 20, 22];
 
 /// A block that passes for the recipe, with the highest number 40.
 fn fine(live: u16) -> Vec<u8> {
@@ -110,7 +110,7 @@ const FAULTS: [fn(&mut [u8], usize); 7] = [
     |block, record| block.copy_within(8..10, 8 * record),
     |block, record| put_place(block, record, 0),
     |block, record| put_place(block, record, 6),
-    |block, record| put_place(block, record, 23),
+    |block, record| put_place(block, record, 25),
 ];
 
 /// Each fault at each record of five; two faults, and a fault before an unused record's; some fault at each record of 32.

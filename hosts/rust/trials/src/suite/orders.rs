@@ -20,7 +20,7 @@ pub fn sweep(suite: &mut Suite) {
 /// table; a kind that is none is right nowhere.
 fn fault(row: &mut Row, faults: u32) {
     if faults & 1 != 0 {
-        row.0 = 13;
+        row.0 = 14;
     }
     if faults & 2 != 0 {
         row.2 = 500;
@@ -35,7 +35,7 @@ fn fault(row: &mut Row, faults: u32) {
 
 /// All ways of being at fault at once, for each kind.
 fn within_a_record(suite: &mut Suite) {
-    for (kind, faults) in (1..=12).flat_map(|kind| (1..16).map(move |faults| (kind, faults))) {
+    for (kind, faults) in (1..=13).flat_map(|kind| (1..16).map(move |faults| (kind, faults))) {
         let (at, hole) = holes(kind)[1];
         let mut rows = hole(sample(kind));
         fault(&mut rows[at], faults);

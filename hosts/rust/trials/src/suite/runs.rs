@@ -4,7 +4,7 @@ use super::blocks::every_kind;
 use super::Suite;
 use crate::block::{block, fresh, log, Task};
 use crate::records::{
-    constant, forever, one, procedure, read, set, skip, spawn, suspend, table, test, two, wait, Part, IF, WHILE,
+    constant, forever, guard, one, procedure, read, set, skip, spawn, suspend, table, test, two, wait, Part, IF, WHILE,
 };
 
 pub fn sweep(suite: &mut Suite) {
@@ -60,8 +60,8 @@ fn limits(suite: &mut Suite) {
     }
 }
 
-/// A recipe with each statement that writes a record (places 1, 3, 4 and 5), each that writes none (7, 8, 10, 13, 16),
-/// and two procedures' ends (18, 20).
+/// A recipe with each statement that writes a record (places 1, 3, 4, 5 and 18), each that writes none (7, 8, 10, 13,
+/// 16), and two procedures' ends (20, 22).
 fn statements() -> Part {
     let main = procedure(&[
         spawn(9, 1, constant(3)),
@@ -73,6 +73,7 @@ fn statements() -> Part {
         test(IF, constant(1), &[skip()]),
         test(WHILE, read(10), &[skip()]),
         set(64, constant(2)),
+        guard(read(64)),
     ]);
     [main, procedure(&[skip()])].concat()
 }
@@ -80,7 +81,7 @@ fn statements() -> Part {
 /// "Next step writes a record and under 8 bytes are free": each step, and the try before it, with and without room.
 fn room(suite: &mut Suite) {
     let recipe = table(&statements());
-    for place in [1, 3, 4, 5, 7, 8, 10, 12, 13, 15, 16, 18, 19, 20] {
+    for place in [1, 3, 4, 5, 7, 8, 10, 12, 13, 15, 16, 18, 20, 21, 22] {
         for (budget, length) in [(0, 0), (1, 0), (1, 7), (1, 8), (2, 0), (2, 8), (2, 15), (2, 16), (3, 17), (9, 400)] {
             for active in [true, false] {
                 let block = block(5, active, &[(2, place, 6)], &[(8, 1)]);
@@ -90,7 +91,7 @@ fn room(suite: &mut Suite) {
     }
     // A waiter is turned behind one that is ready.
     for (budget, length) in [(0, 0), (1, 0), (1, 7), (1, 8), (2, 8), (2, 16), (3, 16), (9, 24), (9, 400)] {
-        let block = block(5, false, &[(2, 4, 6), (3, 19, 0)], &[(8, 3)]);
+        let block = block(5, false, &[(2, 4, 6), (3, 21, 0)], &[(8, 3)]);
         suite.run(&recipe, block, budget, log(length));
     }
 }
@@ -111,6 +112,7 @@ fn bodies(suite: &mut Suite) {
         procedure(&[test(WHILE, constant(-1), &[])]),
         procedure(&[test(WHILE, constant(1), &[last(suspend())]), skip()]),
         procedure(&[set(8, constant(9)), test(IF, constant(1), &[last(wait(8))]), skip()]),
+        procedure(&[set(8, constant(9)), test(IF, constant(1), &[last(guard(read(8)))]), skip()]),
         procedure(&[spawn(8, 0, constant(1)), test(IF, read(64), &[last(wait(64))]), wait(8), set(0, read(8))]),
         procedure(&[count(9, &[last(test(WHILE, constant(0), &[skip()]))]), last(test(WHILE, read(9), &[skip()]))]),
     ];

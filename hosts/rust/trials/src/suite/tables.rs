@@ -5,8 +5,8 @@ use super::values::VALUES;
 use super::Suite;
 use crate::block::{fresh, log};
 use crate::records::{
-    constant, one, procedure, read, sample, set, skip, spawn, suspend, table, test, two, Part, CONSTANT, IF, SPAWN,
-    WHILE,
+    constant, guard, one, procedure, read, sample, set, skip, spawn, suspend, table, test, two, Part, CONSTANT, GUARD,
+    IF, SPAWN, WHILE,
 };
 
 /// A table around a part, and the index of the part's first record.
@@ -25,8 +25,8 @@ pub const STATEMENTS: [Hole; 5] = [
 ];
 
 /// Where an expression is due: a set's and a spawn's, a test with and without a body, the operand of kind 12, the first
-/// and the second of kind 11, and deeper ones.
-pub const EXPRESSIONS: [Hole; 9] = [
+/// and the second of kind 11, deeper ones, and a guard's.
+pub const EXPRESSIONS: [Hole; 10] = [
     (2, |x| procedure(&[set(0, x)])),
     (2, |x| procedure(&[spawn(8, 0, x), skip()])),
     (2, |x| procedure(&[test(IF, x, &[skip(), skip()]), skip()])),
@@ -36,19 +36,20 @@ pub const EXPRESSIONS: [Hole; 9] = [
     (4, |x| procedure(&[set(0, two(1, constant(2), x)), skip()])),
     (4, |x| procedure(&[set(0, two(2, one(0, x), read(8)))])),
     (6, |x| procedure(&[set(0, two(3, two(0, read(8), constant(9)), x))])),
+    (2, |x| procedure(&[guard(x), skip()])),
 ];
 
 /// The places where a kind is due.
 pub fn holes(kind: u8) -> &'static [Hole] {
     match kind {
         1 => &PROCEDURES,
-        2..=8 => &STATEMENTS,
+        2..=8 | GUARD => &STATEMENTS,
         _ => &EXPRESSIONS,
     }
 }
 
 /// Each kind's names, from the least to the most.
-pub const NAMES: [(u8, u8, u8); 12] = [
+pub const NAMES: [(u8, u8, u8); 13] = [
     (1, 0, 0),
     (2, 0, 0),
     (3, 0, 64),
@@ -61,6 +62,7 @@ pub const NAMES: [(u8, u8, u8); 12] = [
     (10, 0, 64),
     (11, 0, 7),
     (12, 0, 1),
+    (13, 0, 0),
 ];
 
 pub fn sweep(suite: &mut Suite) {
@@ -92,10 +94,10 @@ fn lengths(suite: &mut Suite) {
     suite.both(&[(1, 0, 0, 0); 4_096]);
 }
 
-/// "A procedure, statement or expression was due and the kind is another": every kind, and three that are none.
+/// "A procedure, statement or expression was due and the kind is another": every kind, and four that are none.
 fn kinds(suite: &mut Suite) {
     for (_, hole) in PROCEDURES.iter().chain(&STATEMENTS).chain(&EXPRESSIONS) {
-        for kind in (0..=13).chain([128, 255]) {
+        for kind in (0..=14).chain([128, 255]) {
             suite.accepted(&hole(sample(kind)));
         }
     }
@@ -103,7 +105,7 @@ fn kinds(suite: &mut Suite) {
 
 /// Spans about what is enclosed, short ones, and such as end past the table, wherever the kind is due.
 fn spans(suite: &mut Suite) {
-    for kind in 1..=12 {
+    for kind in 1..=13 {
         for &(at, hole) in holes(kind) {
             let whole = hole(sample(kind));
             let exact = whole[at].2;
@@ -114,7 +116,7 @@ fn spans(suite: &mut Suite) {
             }
         }
     }
-    let rows: [&[_]; 8] = [
+    let rows: [&[_]; 10] = [
         // A first operand that leaves none for the second; a kind 11 of span 1; the second stops short.
         &[(1, 0, 4, 0), (3, 8, 3, 0), (11, 0, 2, 0), (12, 0, 1, 0), (9, 0, 0, 0)],
         &[(1, 0, 3, 0), (3, 8, 2, 0), (11, 0, 1, 0), (9, 0, 0, 0)],
@@ -123,6 +125,9 @@ fn spans(suite: &mut Suite) {
         &[(1, 0, 3, 0), (3, 8, 2, 0), (9, 0, 0, 0), (9, 0, 0, 0)],
         &[(1, 0, 3, 0), (4, 0, 2, 0), (9, 0, 0, 0), (9, 0, 0, 0)],
         &[(1, 0, 4, 0), (5, 0, 2, 0), (9, 0, 0, 0), (2, 0, 0, 0), (9, 0, 0, 0)],
+        // A guard's expression is no test: neither a second expression nor a body may follow it.
+        &[(1, 0, 3, 0), (13, 0, 2, 0), (9, 0, 0, 0), (9, 0, 0, 0)],
+        &[(1, 0, 3, 0), (13, 0, 2, 0), (9, 0, 0, 0), (2, 0, 0, 0)],
         // A procedure that ends in the middle of a statement; one that takes the next one in.
         &[(1, 0, 1, 0), (3, 8, 1, 0), (9, 0, 0, 0)],
         &[(1, 0, 1, 0), (1, 0, 0, 0)],
@@ -147,7 +152,7 @@ fn names(suite: &mut Suite) {
 
 /// "Value not 0 where unused", a bit in each of its bytes; a constant's any value.
 fn values(suite: &mut Suite) {
-    for kind in (1..=12).filter(|kind| *kind != SPAWN) {
+    for kind in (1..=13).filter(|kind| *kind != SPAWN) {
         let (at, hole) = holes(kind)[0];
         let more: &[i32] = if kind == CONSTANT { &VALUES } else { &[] };
         for value in [1, -1, 256, 65_536, 1 << 24, i32::MIN].iter().chain(more) {
@@ -198,7 +203,7 @@ pub fn deep(style: usize, levels: usize) -> Part {
 /// "Depth over 16", for statements and for expressions under each kind of statement.
 fn depths(suite: &mut Suite) {
     for kind in [IF, WHILE] {
-        for (tests, inner) in (13..=17).flat_map(|tests| (2..=8).map(move |inner| (tests, inner))) {
+        for (tests, inner) in (13..=17).flat_map(|tests| (2..=8).chain([GUARD]).map(move |inner| (tests, inner))) {
             suite.accepted(&procedure(&[under(kind, tests, sample(inner))]));
         }
     }
@@ -210,6 +215,7 @@ fn depths(suite: &mut Suite) {
             suite.accepted(&procedure(&[test(IF, expression(), &[set(1, constant(1))]), skip()]));
             suite.accepted(&procedure(&[test(WHILE, expression(), &[suspend(), skip()])]));
             suite.accepted(&procedure(&[under(IF, 3, set(0, deep(style, levels - 3)))]));
+            suite.accepted(&procedure(&[under(IF, 3, guard(deep(style, levels - 3)))]));
         }
     }
 }

@@ -1,14 +1,16 @@
-//! Waiting: which numbers are done, who is ready, and "stuck".
+//! Waiting: which numbers are done, which guards are true, who is ready, and "stuck".
 
 use super::Suite;
 use crate::block::{block, log, Task};
-use crate::records::{procedure, read, set, suspend, table, wait, Part};
+use crate::records::{guard, procedure, read, set, suspend, table, wait, Part};
 
 pub fn sweep(suite: &mut Suite) {
     numbers(suite);
     names(suite);
     queue(suite);
     highest(suite);
+    truths(suite);
+    guards(suite);
 }
 
 /// Task 1 waits for variable 8 at place 1; others may wait for their parameter at place 5 or give way at place 9.
@@ -72,6 +74,40 @@ fn highest(suite: &mut Suite) {
         for value in [1, 65_533, 65_534, 65_535, 65_536, -1] {
             let tasks = [(live, 1, 0), (2, 5, value)];
             suite.run(&recipe, block(issued, false, &tasks, &[(8, value)]), 20, log(160));
+        }
+    }
+}
+
+/// Guards over variable 8 at place 1 and over the parameter at place 6; tasks may give way at place 11, or wait for
+/// their parameter at place 14.
+fn guarded() -> Part {
+    let shared = procedure(&[guard(read(8)), set(0, read(8))]);
+    let own = procedure(&[guard(read(64)), set(1, read(64))]);
+    [shared, own, procedure(&[suspend(), suspend()]), procedure(&[wait(64)])].concat()
+}
+
+/// "Passes only if the expression is true then", any value but 0: for a task that reaches its guard and for one that is
+/// tried, alone and before one that gives way.
+fn truths(suite: &mut Suite) {
+    let recipe = table(&guarded());
+    for value in [i32::MIN, 0, 1, 65_536] {
+        for (place, active) in [(1, true), (6, false)] {
+            let tasks = [(1, place, value), (2, 11, 0)];
+            suite.run(&recipe, block(5, active, &tasks[..1], &[(8, value)]), 12, log(160));
+            suite.run(&recipe, block(5, active, &tasks, &[(8, value)]), 12, log(160));
+        }
+    }
+}
+
+/// Queues of tasks at guards over their parameters, at most one of them true, and of one that awaits a number never
+/// issued: as many are turned as stand before the ready one, and with none ready it is stuck at once.
+fn guards(suite: &mut Suite) {
+    let recipe = table(&guarded());
+    for (live, ready) in [(3, 3), (3, 4), (32, 32), (32, 33)] {
+        let task = |i: u16| (100 + i, if i == 2 { 14 } else { 6 }, i32::from(i == ready) * 7);
+        let tasks: Vec<Task> = (1..=live).map(task).collect();
+        for (budget, length) in [(0, 0), (u32::from(ready) - 1, 400), (90, 8 * usize::from(ready) - 8), (90, 800)] {
+            suite.run(&recipe, block(200, false, &tasks, &[]), budget, log(length));
         }
     }
 }
