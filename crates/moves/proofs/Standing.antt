@@ -27,8 +27,8 @@ below : (n k : ℕ) → k ≤ suc n → ¬ (k ≡ suc n) → k ≤ n
 below n k l h = omega arith
 
 -- a place's kind beyond 8 is the guard's
-pub at-guard : (k : ℕ) → atPlace k ≡ true → 9 ≤ k → k ≡ 13
-at-guard k h g = dite (ℕ-discrete k 13) (λ e. e) (λ n. absurd (omega (arith, leb-true k 8 (or-left (leb k 8) (eqb k 13) h (ne-eqb k 13 n)))))
+beyond-eight : (k : ℕ) → atPlace k ≡ true → 9 ≤ k → k ≡ 13
+beyond-eight k h g = dite (ℕ-discrete k 13) (λ e. e) (λ n. absurd (omega (arith, leb-true k 8 (or-left (leb k 8) (eqb k 13) h (ne-eqb k 13 n)))))
 
 -- and what is no other statement is an if or a while
 pub test-bounds : (k : ℕ) → 2 ≤ k → atPlace k ≡ true → ¬ (k ≡ 2) → ¬ (k ≡ 3) → ¬ (k ≡ 6) → ¬ (k ≡ 7) → ¬ (k ≡ 8) → ¬ (k ≡ 13) → (4 ≤ k) × (k ≤ 5)
@@ -46,7 +46,7 @@ statement-kind p i next h g =
     choose isStatement true (kindOf p) 5 _ _ refl (λ d.
     choose isStatement true (kindOf p) 6 _ _ refl (λ e.
     choose isStatement true (kindOf p) 7 _ _ refl (λ f.
-    choose isStatement true (kindOf p) 8 _ _ refl (λ j. rw (eq-eqb (kindOf p) 13 (at-guard (kindOf p) g (above 8 _ (above 7 _ (above 6 _ (above 5 _ (above 4 _ (above 3 _ (above 2 _ h a) b) c) d) e) f) j)))))))))))
+    choose isStatement true (kindOf p) 8 _ _ refl (λ j. rw (eq-eqb (kindOf p) 13 (beyond-eight (kindOf p) g (above 8 _ (above 7 _ (above 6 _ (above 5 _ (above 4 _ (above 3 _ (above 2 _ h a) b) c) d) e) f) j)))))))))))
 
 stop-kind : (p : List ℕ) (i next : ℕ) → kindOf p ≡ 1 → pointAt p i next ≡ stop
 unfolding pointAt

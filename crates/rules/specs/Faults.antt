@@ -76,7 +76,7 @@ standing t j = find (records t) t 0 (record { due = procedure; end = records t; 
 
 -- ---- the rules: whether record i, standing at s, breaks each
 
--- "12: a procedure, statement or expression was due and the kind is another"
+-- "12: a procedure, statement or expression was due and the kind is another"; request 2.1 of document 02: a guard, kind 13, is a statement
 abbrev pub isDue : Due → ℕ → Bool
 isDue procedure k = eqb k 1
 isDue statement k = leb 2 k && leb k 8 || eqb k 13
@@ -88,7 +88,7 @@ isDue last k = leb 9 k && leb k 12
 abbrev pub isOver : List ℕ → ℕ → Stand → Bool
 isOver t i s = ltb (s .end) (endAt t i)
 
--- .. not 0 where nothing is enclosed; under 1 (kinds 3–6, 12) or 2 (kind 11); ..
+-- .. not 0 where nothing is enclosed; under 1 (kinds 3–6, 12; request 2.1: 13 as 3) or 2 (kind 11); ..
 abbrev pub isWrong : Encloses → ℕ → Bool
 isWrong nothing span = not (eqb span 0)
 isWrong statements span = false

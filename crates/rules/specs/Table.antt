@@ -72,7 +72,7 @@ kinds =
 abbrev pub kindRow : ℕ → Kind
 kindRow k = getD kinds k (kind 0 0 nothing unused)
 
--- What can be due where a record stands.
+-- What can be due where a record stands. Request 2.1 of document 02: a guard is a statement.
 pub data Sort : Type 0 where
   procedure statement expression : Sort
 
