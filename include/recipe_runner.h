@@ -24,7 +24,7 @@
  *
  * Stack
  *   Have 16,384 bytes of stack free for each call, whatever the table
- *   holds. Measured on x86-64: at most 13,103 bytes in recipe_run and 2,319 in
+ *   holds. Measured on x86-64: at most 13,055 bytes in recipe_run and 2,319 in
  *   recipe_start, rounded up here to the next 4 KiB.
  */
 #ifndef RECIPE_RUNNER_H
@@ -46,7 +46,7 @@ extern "C" {
 /* The longest table: 4,096 records. The shortest has one. */
 #define RECIPE_TABLE_MOST_BYTES 32768
 
-/* The `number` of both calls: an ending (0-5) or a refusal (11 and up). */
+/* The `number` of both calls: an ending (0-5, 24) or a refusal (11-23). */
 enum recipe_number {
     /* recipe_start: the table is accepted and the fresh state written. */
     RECIPE_ACCEPTED = 0,
@@ -59,6 +59,9 @@ enum recipe_number {
     RECIPE_TASKS = 3,    /* next is a spawn and 32 tasks are live */
     RECIPE_SPENT = 4,    /* next is a spawn and number 65,535 is issued */
     RECIPE_LOGFULL = 5,  /* the next step's record has no room: run again */
+    RECIPE_NOVALUE = 24, /* next is a set, an if, a while or a spawn, and its
+                            expression has no value, as a divisor is 0; place
+                            is the statement's index in the table */
 
     /* Refusals of the table; place is the faulty record's index. */
     RECIPE_TABLE_LENGTH = 11, /* 0, no multiple of 8, or too long; place 0 */
@@ -100,7 +103,8 @@ struct recipe_answer {
     uint32_t number;  /* an ending or a refusal */
     uint32_t steps;   /* steps taken: at most the budget, 0 when refused */
     uint32_t records; /* log records written: 0 when refused */
-    uint32_t place;   /* the faulty record; 0 where none is named */
+    uint32_t place;   /* the faulty record, or the statement of RECIPE_NOVALUE;
+                         0 where none is named */
 };
 
 /*
@@ -150,8 +154,15 @@ struct recipe_started recipe_start(const uint8_t *table, size_t table_len,
  * content. A guard is tested anew at each try: a task at one goes on when it is
  * tried with the reading that it waits for, after RECIPE_STUCK too.
  *
+ * A quotient by 0 has no value, nor has an expression with an operand that has
+ * none. A set, an if, a while or a spawn that needs it is not done: no variable
+ * and no valve changes, and the call ends with RECIPE_NOVALUE. So does every
+ * further call with a budget, at the same statement, until the host writes
+ * another value into a variable that the divisor reads, or starts anew. A guard
+ * without a value is untrue.
+ *
  * Before each step the endings are tried in the order finished, stuck, paused,
- * tasks, spent, logfull. Refusals: the table's, then the state's.
+ * novalue, tasks, spent, logfull. Refusals: the table's, then the state's.
  */
 struct recipe_answer recipe_run(const uint8_t *table, size_t table_len,
                                 uint8_t *state, size_t state_len,

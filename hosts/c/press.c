@@ -140,6 +140,7 @@ static const char *ending_word(uint32_t number)
     case RECIPE_TASKS: return "tasks";
     case RECIPE_SPENT: return "spent";
     case RECIPE_LOGFULL: return "logfull";
+    case RECIPE_NOVALUE: return "novalue";
     default: return "unknown";
     }
 }
@@ -163,12 +164,21 @@ static int refused(uint32_t number, uint32_t place)
     return fflush(stdout) == 0 ? EXIT_REFUSED : trouble("output");
 }
 
-static int ended(const struct press *press, uint32_t number)
+/* The numbers between the endings 5 and 24. */
+static int is_refusal(uint32_t number)
 {
-    printf("%s %" PRIu64 "\n", ending_word(number), press->steps);
+    return number >= RECIPE_TABLE_LENGTH && number <= RECIPE_STATE_NUMBERS;
+}
+
+static int ended(const struct press *press, const struct recipe_answer *answer)
+{
+    printf("%s %" PRIu64 "\n", ending_word(answer->number), press->steps);
     if (fflush(stdout) != 0)
         return trouble("output");
-    return number == RECIPE_FINISHED ? EXIT_FINISHED : EXIT_UNFINISHED;
+    if (answer->number == RECIPE_NOVALUE)
+        fprintf(stderr, "press: record %" PRIu32 " divides by 0\n",
+                answer->place);
+    return answer->number == RECIPE_FINISHED ? EXIT_FINISHED : EXIT_UNFINISHED;
 }
 
 /* Take the state from its file, or a fresh one where there is no such file. */
@@ -198,7 +208,7 @@ static int run_slice(struct press *press, struct recipe_answer *answer)
     *answer = recipe_run(press->table, press->table_len, press->state,
                          press->state_len, SLICE_STEPS, press->log,
                          sizeof press->log);
-    if (answer->number >= RECIPE_TABLE_LENGTH)
+    if (is_refusal(answer->number))
         return refused(answer->number, answer->place);
     press->steps += answer->steps;
     print_log(press->log, answer->records);
@@ -227,7 +237,7 @@ static int run(struct press *press)
             return status;
         slice++;
     } while (may_go_on(answer.number) && slice != press->slices);
-    return ended(press, answer.number);
+    return ended(press, &answer);
 }
 
 /* A whole number from 1; anything else gives 0. */

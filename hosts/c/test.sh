@@ -198,6 +198,41 @@ finished 3
 exit 0" "$(said -s "$work/sensor.state" "$work/sensor")"
 }
 
+# Valve 1, then valve 0 set to 6 by variable 8, at record 3.
+test_divisor() {
+    table "$work/share" 1,0,6,0 3,1,1,0 9,0,0,1 3,0,3,0 11,3,2,0 9,0,0,6 \
+        10,8,0,0
+    check "a zero divisor stops before its set" "valve 1 1 1
+novalue 1
+exit 3" "$(said -s "$work/share.state" "$work/share")"
+    check "its record is told" "press: record 3 divides by 0" \
+        "$(cat "$work/errors")"
+    cp "$work/share.state" "$work/share.was"
+    check "it stops there again" "novalue 0
+exit 3" "$(said -s "$work/share.state" "$work/share")"
+    cmp "$work/share.state" "$work/share.was"
+    check "its state is kept" 0 $?
+    byte 2 | dd of="$work/share.state" bs=1 seek=296 conv=notrunc 2>/dev/null
+    check "another divisor written between calls" "valve 1 0 3
+ended 1 0 0
+finished 2
+exit 0" "$(said -s "$work/share.state" "$work/share")"
+
+    # Behind as many steps as a slice has.
+    table "$work/late" 1,0,104,0 \
+        $(awk 'BEGIN { while (i++ < 100) print "2,0,0,0" }') \
+        3,0,3,0 11,3,2,0 9,0,0,6 10,8,0,0
+    check "a budget used up is told first" "paused 100
+exit 3" "$(said -s "$work/late.state" -n 1 "$work/late")"
+    check "then the zero divisor" "novalue 0
+exit 3" "$(said -s "$work/late.state" "$work/late")"
+
+    table "$work/untrue" 1,0,4,0 13,0,3,0 11,3,2,0 9,0,0,6 10,8,0,0
+    check "a guard without a value is stuck" "waits 1 0 0
+stuck 1
+exit 3" "$(said "$work/untrue")"
+}
+
 test_trouble() {
     check "no table named" "exit 2" "$(said)"
     check "two tables named" "exit 2" "$(said "$work/a" "$work/a")"
@@ -214,5 +249,6 @@ test_refused_table
 test_refused_state
 test_resume
 test_sensor
+test_divisor
 test_trouble
 exit $failed

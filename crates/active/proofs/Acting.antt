@@ -12,11 +12,11 @@ use borrow.Author.Tests.{eq-eqb, ne-eqb}
 use Rattle.rules.specs.Recipe.{Recipe, Env, write}
 use Rattle.rules.specs.State.{Task, Store, State}
 use Rattle.rules.specs.Log.{Event}
-use Rattle.rules.specs.Scheduler.{Limit, Stay, on, Next, goes, nextAct, stay}
+use Rattle.rules.specs.Scheduler.{Halt, Stay, on, Next, goes, nextAct, stay}
 use Rattle.rules.specs.Steps.{limits, goWith, spawnAt, recipes}
 use Rattle.rules.proofs.Steps.{room}
 use Rattle.moves.specs.declared.Move.{Move}
-use Rattle.moves.specs.declared.Move.the-variants.{Goes, Sets, Spawns, Gives, Waits, Ends}
+use Rattle.moves.specs.declared.Move.the-variants.{Goes, Sets, Spawns, Gives, Waits, Ends, Lacks}
 use Rattle.moves.specs.Moves.{actOf, storeWith}
 use Rattle.active.specs.Active.{env, leaves, busy, leftBy, Room}
 
@@ -37,6 +37,7 @@ stays (Spawns n p z k) c h = absurd (true≢false h)
 stays (Gives k) c h = absurd (true≢false h)
 stays (Waits z) c h = absurd (true≢false h)
 stays Ends c h = absurd (true≢false h)
+stays Lacks c h = refl
 
 module _ (r : Recipe) (q : List (Task ℕ)) (x : Option Event) (c : State) where
   -- a step without new tasks
@@ -54,7 +55,7 @@ module _ (r : Recipe) (q : List (Task ℕ)) (x : Option Event) (c : State) where
       free : limits (length q) issued ≡ none
       free = go (limits (length q) issued) h
         where
-          go : (o : Option Limit) → nextAct (recipes r) q (spawnAt o (storeWith issued v) t n p z k) ≡ goes x c → o ≡ none
+          go : (o : Option Halt) → nextAct (recipes r) q (spawnAt o (storeWith issued v) t n p z k) ≡ goes x c → o ≡ none
           go none h = refl
           go (some l) h = absurd (let z : _≡_ {A = ℕ} 0 1 = cc in omega arith)
 
@@ -69,3 +70,4 @@ module _ (r : Recipe) (q : List (Task ℕ)) (x : Option Event) (c : State) where
     roomy (Gives k) h = tt
     roomy (Waits z) h = tt
     roomy Ends h = tt
+    roomy Lacks h = absurd (let z : _≡_ {A = ℕ} 0 1 = cc in omega arith)

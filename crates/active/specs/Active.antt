@@ -15,7 +15,7 @@ use Rattle.rules.specs.Scheduler.{goes, nextAct, Ending, Run}
 use Rattle.rules.specs.Steps.{recipes}
 use Rattle.state.specs.View.{putBack, spawn, end}
 use Rattle.moves.specs.declared.Move.{Move}
-use Rattle.moves.specs.declared.Move.the-variants.{Goes, Sets, Spawns, Gives, Waits, Ends}
+use Rattle.moves.specs.declared.Move.the-variants.{Goes, Sets, Spawns, Gives, Waits, Ends, Lacks}
 use Rattle.links.specs.Linked.{Linked}
 use Rattle.moves.specs.Moves.{actOf, storeWith}
 use Rattle.count.specs.declared.Count.{Count}
@@ -32,6 +32,7 @@ leaves (Spawns n p z k) = true
 leaves (Gives k) = true
 leaves (Waits z) = true
 leaves Ends = true
+leaves Lacks = false
 
 -- the state with the task t active
 abbrev pub busy : (issued : ℕ) → (variables : List ℤ) → R.Task ℕ → List (R.Task ℕ) → R.State
@@ -45,6 +46,7 @@ leftBy (Spawns n p z k) c = spawn p z c
 leftBy (Gives k) c = putBack (c .active) c
 leftBy (Waits z) c = putBack (c .active) c
 leftBy Ends c = end c
+leftBy Lacks c = c
 
 -- the task t′ and the variables v′ are what a move makes of t and v: with what it does to the queue, that is the step
 abbrev pub Local : Move → (issued : ℕ) → (t t′ : R.Task ℕ) → (v v′ : List ℤ) → Type 0
@@ -60,7 +62,7 @@ pub record Active (table next starts : List ℕ) (budget : ℕ) (log : List ℕ)
   pub many : length queue ≡ queued
   pub reached : Reached (recipeOf table) budget n log (busy issued variables t queue)
 
--- no limit bars the move
+-- neither a limit nor a missing value bars the move
 abbrev pub Room : Move → (queued issued : ℕ) → Type 0
 Room (Goes k) queued issued = Unit {0}
 Room (Sets n z k) queued issued = Unit {0}
@@ -68,6 +70,7 @@ Room (Spawns n p z k) queued issued = (queued < 31) × (issued < 65535)
 Room (Gives k) queued issued = Unit {0}
 Room (Waits z) queued issued = Unit {0}
 Room Ends queued issued = Unit {0}
+Room Lacks queued issued = ⊥
 
 -- the call ends at the state c, or goes on by what the move m of its active task does to the queue
 abbrev pub Left : (r : Recipe) → Run (recipes r) → (budget : ℕ) → (given : List ℕ) → Count → (log : List ℕ) → Move → R.State → Option Ending → Type 0

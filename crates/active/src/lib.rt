@@ -43,6 +43,7 @@ fn leaves(m: Move) -> bool
         Move::Gives(_) => true,
         Move::Waits(_) => true,
         Move::Ends => true,
+        Move::Lacks => false,
     }
 }
 
@@ -97,6 +98,7 @@ fn local(m: Move, t: Task, issued: u16, variables: &mut [i32; 64]) -> Task
         Move::Gives(place) => moved(t, place),
         Move::Waits(_) => t,
         Move::Ends => t,
+        Move::Lacks => t,
     }
 }
 

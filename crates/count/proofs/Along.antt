@@ -11,7 +11,7 @@ use lib.Seq.{sets, sets-eq, take-at, drop-at, drop-drop}
 use Rattle.rules.specs.Recipe.{Recipe, Within}
 use Rattle.rules.specs.State.{State}
 use Rattle.rules.specs.Log.{Event, eventRow, logBytes}
-use Rattle.rules.specs.Scheduler.{goes, next, Ending, finished, paused, stuck, logfull, limit, tasks, spent, What, stops, makes, test, size, Run, run, logOf}
+use Rattle.rules.specs.Scheduler.{goes, next, Ending, What, stops, makes, test, size, Run, run, logOf}
 use Rattle.rules.specs.Steps.{recipes}
 use Rattle.rules.specs.Run.{roomOf}
 use Rattle.rules.proofs.Answers.{event-length, log-length}
@@ -23,7 +23,7 @@ use Rattle.rules.proofs.Steps.{step-fits}
 use Rattle.count.specs.declared.Count.{Count}
 use Rattle.count.specs.declared.Stop.{Stop}
 use Rattle.count.specs.Along.{endingOf, isMore, Along, Ended, noted, Decides, Told}
-use Rattle.count.proofs.Stops.{stop-not-more}
+use Rattle.count.proofs.Stops.{stop-ends, stop-not-more}
 
 pub along-start : (r : Recipe) (budget : ℕ) (log : List ℕ) (c : State) (n : Count) → n .steps ≡ 0 → n .written ≡ 0 → Fit r c
     → Along r (run (recipes r) budget (roomOf log) c) budget log n log c
@@ -122,12 +122,7 @@ module _ {r : Recipe} {u : Run (recipes r)} {budget : ℕ} {given : List ℕ} {n
     where
       go : (y : What (recipes r)) → test (recipes r) (budget - n .steps) (roomOf given - length (a .events)) (next (recipes r) c) ≡ y
           → Decides r y stop n n′ log log′ → Told r u budget given n′ log′ c (endingOf stop)
-      go (stops finished) h d = rw (d .0, d .1, d .2) (ended finished h)
-      go (stops paused) h d = rw (d .0, d .1, d .2) (ended paused h)
-      go (stops stuck) h d = rw (d .0, d .1, d .2) (ended stuck h)
-      go (stops logfull) h d = rw (d .0, d .1, d .2) (ended logfull h)
-      go (stops (limit tasks)) h d = rw (d .0, d .1, d .2) (ended (limit tasks) h)
-      go (stops (limit spent)) h d = rw (d .0, d .1, d .2) (ended (limit spent) h)
+      go (stops e) h d = rw (d .0, d .1, d .2, stop-ends e) (ended e h)
       go (makes x c′) h d =
           let (g, l, b) = test-makes (recipes r) _ _ (next (recipes r) c) x c′ h in
           rw (d .0) (x, c′, g, made a x w g (omega arith) l (d .1) (d .2) (d .3))

@@ -10,7 +10,7 @@ use lib.Seq.{sets}
 use Rattle.rules.specs.Recipe.{Recipe}
 use Rattle.rules.specs.State.{State, Store, Task}
 use Rattle.rules.specs.Log.{Event, eventRow}
-use Rattle.rules.specs.Scheduler.{Limit, Act, halts, does, goes, nextAct, stay, limit, test}
+use Rattle.rules.specs.Scheduler.{Halt, Act, halts, does, goes, nextAct, stay, halted, test}
 use Rattle.rules.specs.Steps.{recipes}
 use Rattle.events.specs.Events.{stopped, went, facts}
 use Rattle.count.specs.declared.Count.{Count}
@@ -50,7 +50,7 @@ module _ (r : Recipe) (n : Count) (log : List ℕ) where
       more : budget - n .steps ≡ suc (budget - n .steps - 1)
       more = omega arith
 
-      pub decide-barred : (l : Limit) (a : Act Store (Task ℕ) Event) → stopped l ≡ facts a → act-test a (stopOf (limit l)) n log
+      pub decide-barred : (l : Halt) (a : Act Store (Task ℕ) Event) → stopped l ≡ facts a → act-test a (stopOf (halted l)) n log
       decide-barred l (halts m) e = let z : l ≡ m = cc in rw (more, z) (refl, refl, refl)
       decide-barred l (does s new y x) e = absurd (let z : _≡_ {A = ℕ} 0 1 = cc in omega arith)
 

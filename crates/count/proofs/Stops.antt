@@ -3,7 +3,7 @@
 use mathlib.Core.Path.{_≡_, refl, sym, ap, _∙_}
 use mathlib.Core.Bool.{true, false, true≢false, false≢true}
 use mathlib.Core.Option.{Option, none, some}
-use Rattle.rules.specs.Scheduler.{Ending, finished, paused, stuck, logfull, limit, tasks, spent}
+use Rattle.rules.specs.Scheduler.{Ending, finished, paused, stuck, logfull, halted, tasks, spent, novalue}
 use Rattle.count.specs.declared.Stop.{Stop}
 use Rattle.count.specs.Along.{stopOf, endingOf, goesOn, isMore}
 
@@ -29,13 +29,14 @@ module _ (s : Stop) where
   not-more h e = false≢true (sym h ∙ none-more e)
 
 -- the stop of an ending has that ending
-stop-ends : (e : Ending) → endingOf (stopOf e) ≡ some e
+pub stop-ends : (e : Ending) → endingOf (stopOf e) ≡ some e
 stop-ends finished = refl
 stop-ends paused = refl
 stop-ends stuck = refl
 stop-ends logfull = refl
-stop-ends (limit tasks) = refl
-stop-ends (limit spent) = refl
+stop-ends (halted tasks) = refl
+stop-ends (halted spent) = refl
+stop-ends (halted novalue) = refl
 
 pub stop-not-more : (e : Ending) → isMore (stopOf e) ≡ false
 stop-not-more e = ap goesOn (stop-ends e)

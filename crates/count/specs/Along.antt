@@ -10,31 +10,33 @@ use lib.Seq.{sets}
 use Rattle.rules.specs.Recipe.{Recipe}
 use Rattle.rules.specs.State.{State}
 use Rattle.rules.specs.Log.{Event, eventRow, logBytes}
-use Rattle.rules.specs.Scheduler.{tasks, spent, goes, next, Ending, finished, paused, stuck, logfull, limit, What, stops, makes, size, Run, ending, last, stepsOf, log}
+use Rattle.rules.specs.Scheduler.{tasks, spent, novalue, goes, next, Ending, finished, paused, stuck, logfull, halted, What, stops, makes, size, Run, ending, last, stepsOf, log}
 use Rattle.rules.specs.Steps.{recipes}
 use Rattle.rules.specs.Run.{roomOf}
 use Rattle.rules.proofs.Scheduling.Loop.{At}
 use Rattle.rules.proofs.Fit.{Fit}
 use Rattle.count.specs.declared.Count.{Count}
 use Rattle.count.specs.declared.Stop.{Stop}
-use Rattle.count.specs.declared.Stop.the-variants.{More, Finished, Paused, Stuck, Tasks, Spent, Logfull}
+use Rattle.count.specs.declared.Stop.the-variants.{More, Finished, Paused, Stuck, Tasks, Spent, Logfull, NoValue}
 
 abbrev pub stopOf : Ending → Stop
 stopOf finished = Finished
 stopOf paused = Paused
 stopOf stuck = Stuck
-stopOf (limit tasks) = Tasks
-stopOf (limit spent) = Spent
+stopOf (halted tasks) = Tasks
+stopOf (halted spent) = Spent
 stopOf logfull = Logfull
+stopOf (halted novalue) = NoValue
 
 abbrev pub endingOf : Stop → Option Ending
 endingOf More = none
 endingOf Finished = some finished
 endingOf Paused = some paused
 endingOf Stuck = some stuck
-endingOf Tasks = some (limit tasks)
-endingOf Spent = some (limit spent)
+endingOf Tasks = some (halted tasks)
+endingOf Spent = some (halted spent)
 endingOf Logfull = some logfull
+endingOf NoValue = some (halted novalue)
 
 -- a call goes on where it has no ending
 abbrev pub goesOn : Option Ending → Bool

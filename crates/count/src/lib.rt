@@ -39,6 +39,7 @@ pub enum Stop {
     Tasks,
     Spent,
     Logfull,
+    NoValue,
 }
 
 // What the tests before a step decide, and the count after it.
@@ -58,6 +59,7 @@ pub fn is_more(stop: Stop) -> bool
         Stop::Tasks => false,
         Stop::Spent => false,
         Stop::Logfull => false,
+        Stop::NoValue => false,
     }
 }
 
@@ -117,6 +119,10 @@ pub fn decide(
     }
     let o = outcome_of(m, number, queued, issued);
     match o {
+        Outcome::NoValue => Decided {
+            stop: Stop::NoValue,
+            count: n,
+        },
         Outcome::Tasks => Decided {
             stop: Stop::Tasks,
             count: n,

@@ -8,9 +8,9 @@ use lib.IntN.{ℤ}
 use borrow.Author.Tests.{lt-ltb, le-ltb, le-leb, lt-leb}
 use Rattle.rules.specs.Log.{gave, waits, ended}
 use Rattle.rules.specs.Steps.{limits, valveOf}
-use Rattle.moves.specs.declared.Move.the-variants.{Goes, Sets, Spawns, Gives, Waits, Ends}
+use Rattle.moves.specs.declared.Move.the-variants.{Goes, Sets, Spawns, Gives, Waits, Ends, Lacks}
 use Rattle.events.specs.declared.Event.the-variants as E
-use Rattle.events.specs.declared.Outcome.the-variants.{Went, Quiet, Tasks, Spent}
+use Rattle.events.specs.declared.Outcome.the-variants.{Went, Quiet, Tasks, Spent, NoValue}
 use Rattle.events.specs.Events.{went, Tells}
 
 module _ (number queued issued : ℕ) where
@@ -25,6 +25,9 @@ module _ (number queued issued : ℕ) where
 
   pub ends-tells : Tells number queued issued Ends (Went (E.Ended number))
   ends-tells = record { tells = λ s q t a b d. ap (λ (n : ℕ). went (some (ended n))) (sym d) }
+
+  pub lacks-tells : Tells number queued issued Lacks NoValue
+  lacks-tells = record { tells = λ s q t a b d. refl }
 
   module _ (n k : ℕ) (z : ℤ) where
     pub valve-tells : n < 8 → Tells number queued issued (Sets n z k) (Went (E.Valve number n z))

@@ -8,12 +8,12 @@ use lib.ListN.{length}
 use Rattle.rules.specs.Fields.{bytes2, bytes4}
 use Rattle.rules.specs.State.{Task, Store}
 use Rattle.rules.specs.Log as L
-use Rattle.rules.specs.Scheduler.{Limit, tasks, spent, Act, halts, does}
+use Rattle.rules.specs.Scheduler.{Halt, tasks, spent, novalue, Act, halts, does}
 use Rattle.moves.specs.declared.Move.{Move}
 use Rattle.events.specs.declared.Event.{Event}
 use Rattle.events.specs.declared.Event.the-variants.{Spawned, Taken, Gave, Waits, Turned, Ended, Valve}
 use Rattle.events.specs.declared.Outcome.{Outcome}
-use Rattle.events.specs.declared.Outcome.the-variants.{Went, Quiet, Tasks, Spent}
+use Rattle.events.specs.declared.Outcome.the-variants.{Went, Quiet, Tasks, Spent, NoValue}
 use Rattle.moves.specs.Moves.{actOf}
 
 abbrev pub eventOf : Event → L.Event
@@ -27,7 +27,7 @@ eventOf (Valve t v z) = L.valve t v z
 
 -- "A step ends in a new state or in a named stop": the stop's name, or the event of the log, if there is one
 pub data Facts : Type 0 where
-  stopped : Limit → Facts
+  stopped : Halt → Facts
   went : Option L.Event → Facts
 
 abbrev pub factsOf : Outcome → Facts
@@ -35,6 +35,7 @@ factsOf (Went e) = went (some (eventOf e))
 factsOf Quiet = went none
 factsOf Tasks = stopped tasks
 factsOf Spent = stopped spent
+factsOf NoValue = stopped novalue
 
 abbrev pub facts : Act Store (Task ℕ) L.Event → Facts
 facts (halts l) = stopped l

@@ -28,6 +28,7 @@ pub enum Outcome {
     Quiet,
     Tasks,
     Spent,
+    NoValue,
 }
 
 // What a move of the task of this number comes to, with so many tasks queued and this number issued.
@@ -54,6 +55,7 @@ pub fn outcome_of(m: Move, number: u16, queued: usize, issued: u16) -> Outcome
         Move::Gives(_) => Outcome::Went(Event::Gave(number)),
         Move::Waits(z) => Outcome::Went(Event::Waits(number, z)),
         Move::Ends => Outcome::Went(Event::Ended(number)),
+        Move::Lacks => Outcome::NoValue,
     }
 }
 

@@ -2,12 +2,15 @@
 -- Assumes nothing.
 use Prim.Native.Nat.{ℕ, _+_, _*_, _≤_, _<_}
 use mathlib.Core.Path.{_≡_, refl, sym, ap, ap₂, _∙_, subst⁻¹}
+use mathlib.Core.Logic.{dite}
+use mathlib.Core.Option.{Option, none, some}
 use mathlib.Core.List.{List, [], _++_, append-nil}
+use native.Mathlib.Decide.{ℕ-discrete}
 use native.Mathlib.Omega.{arith}
 use lib.IntN.{ℤ}
 use lib.ListN.{length, length-append}
 use Rattle.rules.specs.Fields.{word, signed}
-use Rattle.rules.specs.Values.{apply1, apply2}
+use Rattle.rules.specs.Values.{apply1, apply2, ofBoth, ofOne}
 use Rattle.rules.specs.Recipe.{Expr, constant, variable, two, one, encodeE, NamedE, Env, read, value}
 use Rattle.rules.specs.Table.{kindOf, nameOf, spanOf, valueOf, inner, after, exprOf}
 use Rattle.rules.proofs.Grammar.Rows.{span-encodeE, value-row, length-encodeE, parts-two, parts-one, after-encodeE}
@@ -103,19 +106,23 @@ holds = by-spelling Holds holds-encode
 -- ---- the value by the kind, from what a reader has worked out: x of the part q of the first operand, y of the second's
 
 module _ (v : Env) {p : List ℕ} (s : Spelt p) where
-  pub value-constant : {w : ℕ} → kindOf p ≡ 9 → w ≡ word p 4 → signed w ≡ value v (exprOf p)
+  pub value-constant : {w : ℕ} → kindOf p ≡ 9 → w ≡ word p 4 → some (signed w) ≡ value v (exprOf p)
   unfolding value
   value-constant h e = rw (e, holds s .constant-is h)
 
-  pub value-variable : kindOf p ≡ 10 → read v (nameOf p) ≡ value v (exprOf p)
+  pub value-variable : kindOf p ≡ 10 → some (read v (nameOf p)) ≡ value v (exprOf p)
   unfolding value
   value-variable h = rw (holds s .variable-is h)
 
-  pub value-one : {q : List ℕ} {x : ℤ} → kindOf p ≡ 12 → q ≡ inner p → x ≡ value v (exprOf q) → apply1 (nameOf p) x ≡ value v (exprOf p)
+  pub value-one : {q : List ℕ} {x : Option ℤ} → kindOf p ≡ 12 → q ≡ inner p → x ≡ value v (exprOf q) → ofOne (apply1 (nameOf p)) x ≡ value v (exprOf p)
   unfolding value
   value-one h e f = rw (f, e, holds s .one-is h)
 
-  pub value-two : {q r : List ℕ} {x y : ℤ} → Operator p → ¬ (kindOf p ≡ 12) → q ≡ inner p → r ≡ after q
-      → x ≡ value v (exprOf q) → y ≡ value v (exprOf r) → apply2 (nameOf p) x y ≡ value v (exprOf p)
+  pub value-two : {q r : List ℕ} {x y : Option ℤ} → Operator p → ¬ (kindOf p ≡ 12) → q ≡ inner p → r ≡ after q
+      → x ≡ value v (exprOf q) → y ≡ value v (exprOf r) → ofBoth (apply2 (nameOf p)) x y ≡ value v (exprOf p)
   unfolding value
   value-two h g e e′ f f′ = rw (f, f′, e′, e, holds s .two-is h g)
+
+  -- without the first operand's value there is none
+  pub value-none : {q : List ℕ} → Operator p → q ≡ inner p → none ≡ value v (exprOf q) → none ≡ value v (exprOf p)
+  value-none h e f = dite (ℕ-discrete (kindOf p) 12) (λ k. value-one k e f) (λ k. value-two h k e refl f refl)

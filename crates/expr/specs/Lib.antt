@@ -1,1 +1,2 @@
 pub mod Spelt
+pub mod Evaluated

@@ -1,8 +1,9 @@
 -- The move at each kind of statement, and at the end of a procedure.
 -- Assumes nothing.
 use Prim.Native.Nat.{ℕ, _≤_}
-use mathlib.Core.Path.{_≡_}
+use mathlib.Core.Path.{_≡_, sym}
 use mathlib.Core.Bool.{cond}
+use mathlib.Core.Option.{none, some}
 use mathlib.Core.List.{List}
 use mathlib.Core.Logic.{_⊎_, ⊎-elim}
 use lib.IntN.{ℤ, natAbs}
@@ -13,8 +14,10 @@ use Rattle.rules.specs.Places.{Point, stop, tests}
 use Rattle.rules.specs.Standing.{pointAt}
 use Rattle.rules.specs.State.{Task}
 use Rattle.rules.specs.Scheduler.{noNumber}
-use Rattle.moves.specs.declared.Move.the-variants.{Goes, Sets, Spawns, Gives, Waits, Ends}
-use Rattle.moves.specs.Moves.{Moves, intoBody}
+use Rattle.rules.specs.Steps.{limits}
+use Rattle.rules.proofs.NoValue.{needs-kind, lacking-halts}
+use Rattle.moves.specs.declared.Move.the-variants.{Goes, Sets, Spawns, Gives, Waits, Ends, Lacks}
+use Rattle.moves.specs.Moves.{Moves, storeWith, intoBody}
 
 test-point : (p : List ℕ) (i k : ℕ) → (kindOf p ≡ 4) ⊎ (kindOf p ≡ 5)
     → pointAt p i k ≡ tests (exprOf (inner p)) (intoBody p i k) k
@@ -46,16 +49,20 @@ module _ (begin : ℕ → ℕ) (vs : List ℤ) (t : Task ℕ) where
     unfolding pointAt
     guard-moves h = record { acts = λ issued q. rw h; named = tt }
 
-    module _ (z : ℤ) (is : z ≡ value (record { variables = vs; parameter = t .parameter }) (exprOf (inner p))) where
+    pub lacks-moves : 3 ≤ kindOf p → kindOf p ≤ 6 → none ≡ value (record { variables = vs; parameter = t .parameter }) (exprOf (inner p)) → Moves begin there vs t Lacks
+    lacks-moves low high is =
+        record { acts = λ issued q. lacking-halts begin limits there (storeWith issued vs) q t (exprOf (inner p)) (needs-kind p i k low high) (sym is); named = tt }
+
+    module _ (z : ℤ) (is : some z ≡ value (record { variables = vs; parameter = t .parameter }) (exprOf (inner p))) where
       pub set-moves : kindOf p ≡ 3 → nameOf p ≤ 64 → Moves begin there vs t (Sets (nameOf p) z k)
       unfolding pointAt
-      set-moves h w = record { acts = λ issued q. rw (h, is); named = w }
+      set-moves h w = record { acts = λ issued q. rw (h, ← is); named = w }
 
       pub spawn-moves : (s : ℕ) → kindOf p ≡ 6 → nameOf p ≤ 64 → s ≡ begin (natAbs (valueOf p))
           → Moves begin there vs t (Spawns (nameOf p) s z k)
       unfolding pointAt
-      spawn-moves s h w e = record { acts = λ issued q. rw (h, e, is); named = w }
+      spawn-moves s h w e = record { acts = λ issued q. rw (h, e, ← is); named = w }
 
       pub test-moves : (j : ℕ) → (kindOf p ≡ 4) ⊎ (kindOf p ≡ 5) → j ≡ cond (truth z) (intoBody p i k) k
           → Moves begin there vs t (Goes j)
-      test-moves j h e = record { acts = λ issued q. rw (test-point p i k h, e, is); named = tt }
+      test-moves j h e = record { acts = λ issued q. rw (test-point p i k h, e, ← is); named = tt }

@@ -14,10 +14,10 @@ use Rattle.rules.specs.Places.{Point, at, start}
 use Rattle.rules.specs.Standing.{bodyPlace, pointAt, StandsAt}
 use Rattle.rules.specs.State.{Task, Store}
 use Rattle.rules.specs.Log.{Event, gave, waits, ended}
-use Rattle.rules.specs.Scheduler.{on, back, over, Act, does}
+use Rattle.rules.specs.Scheduler.{on, back, over, novalue, Act, halts, does}
 use Rattle.rules.specs.Steps.{limits, valveOf, envOf, goTo, moves, spawnAt, actAt}
 use Rattle.moves.specs.declared.Move.{Move}
-use Rattle.moves.specs.declared.Move.the-variants.{Goes, Sets, Spawns, Gives, Waits, Ends}
+use Rattle.moves.specs.declared.Move.the-variants.{Goes, Sets, Spawns, Gives, Waits, Ends, Lacks}
 
 -- what each move does
 abbrev pub actOf : Move → Store → List (Task ℕ) → Task ℕ → Act Store (Task ℕ) Event
@@ -27,6 +27,7 @@ actOf (Spawns n p z k) s q t = spawnAt (limits (length q) (s .issued)) s t n p z
 actOf (Gives k) s q t = does s [] (back (goTo t k)) (some (gave (t .number)))
 actOf (Waits z) s q t = does s [] (back t) (some (waits (t .number) z))
 actOf Ends s q t = does s [] over (some (ended (t .number)))
+actOf Lacks s q t = halts novalue
 
 -- a move's name is that of a variable or of the parameter
 abbrev pub Named : Move → Type 0
@@ -36,6 +37,7 @@ Named (Spawns n p z k) = n ≤ 64
 Named (Gives k) = Unit {0}
 Named (Waits z) = Unit {0}
 Named Ends = Unit {0}
+Named Lacks = Unit {0}
 
 abbrev pub storeWith : (issued : ℕ) → (variables : List ℤ) → Store
 storeWith issued variables = record { issued = issued; variables = variables }

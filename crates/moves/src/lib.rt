@@ -1,4 +1,5 @@
 // What the active task does next.
+use expr::Evaluated;
 use expr::eval;
 use expr::variable;
 use state::Task;
@@ -15,6 +16,7 @@ ghost use Rattle.rules.specs.Values.{truth};
 ghost use Rattle.rules.specs.Recipe.{value};
 ghost use Rattle.rules.specs.Table.{kindOf, spanOf, valueOf, inner, exprOf, fine, check, recipeOf};
 ghost use Rattle.rules.specs.Standing.{atPlace};
+ghost use Rattle.expr.specs.Evaluated.{evaluated};
 ghost use Rattle.state.specs.View.{taskOf};
 ghost use Rattle.ready.specs.Ready.{Placed};
 ghost use Rattle.links.specs.Linked.{Linked};
@@ -22,7 +24,7 @@ ghost use Rattle.moves.specs.Moves.{MovesIn, Part, Enclosing, MovesAt, i
 
 // On to a place; a variable's name, its new value and the next place; the name of the variable for the new task's number,
 // the place where that task starts, its argument and the next place; to the back of the queue, at the next place; to the
-// back, where it stands, with what its log record carries; the end.
+// back, where it stands, with what its log record carries; the end; none, since its expression has no value.
 pub enum Move {
     Goes(u16),
     Sets(u8, i32, u16),
@@ -30,12 +32,13 @@ pub enum Move {
     Gives(u16),
     Waits(i32),
     Ends,
+    Lacks,
 }
 
-// The value of the expression that a statement encloses first.
-fn value_of(part: &[u8], variables: &[i32; 64], parameter: i32) -> i32
+// The expression that a statement encloses first, worked out.
+fn value_of(part: &[u8], variables: &[i32; 64], parameter: i32) -> Evaluated
     requires { ⌜ Enclosing (now part) ⌝ }
-    ensures { λ r. ⌜ r ≡ value (record { variables = now (variables .entry); parameter = parameter }) (exprOf (inner (now (part .entry)))) ⌝ }
+    ensures { λ r. ⌜ evaluated r ≡ value (record { variables = now (variables .entry); parameter = parameter }) (exprOf (inner (now (part .entry)))) ⌝ }
 {
     eval(enclosed(part), variables, parameter)
 }
@@ -93,11 +96,15 @@ fn statement(
     match kind {
         2 => Move::Goes(follow),
         3 => {
-            let v = value_of(part, variables, t.parameter);
+            let Evaluated::Value(v) = value_of(part, variables, t.parameter) else {
+                return Move::Lacks;
+            };
             Move::Sets(name, v, follow)
         }
         6 => {
-            let v = value_of(part, variables, t.parameter);
+            let Evaluated::Value(v) = value_of(part, variables, t.parameter) else {
+                return Move::Lacks;
+            };
             let start = start_of(part, starts);
             Move::Spawns(name, start, v, follow)
         }
@@ -107,7 +114,9 @@ fn statement(
         13 => Move::Waits(0),
         // An if or a while.
         _ => {
-            let v = value_of(part, variables, t.parameter);
+            let Evaluated::Value(v) = value_of(part, variables, t.parameter) else {
+                return Move::Lacks;
+            };
             Move::Goes(branch(part, place, follow, v))
         }
     }

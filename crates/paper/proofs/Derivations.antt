@@ -44,11 +44,11 @@ nameBy none (t ∷ q) a = nameTry (frontB (t .place)) a
 
 while-name : {f : ℕ} {s s′ : Body} {σ σ′ : Env} {event : Option Event} → WhileStep f s σ event s′ σ′ → Local ≡ nameB s
 while-name skip-step = refl
-while-name assign-step = refl
-while-name (if-true h) = refl
-while-name (if-false h) = refl
-while-name (while-true h) = refl
-while-name (while-false h) = refl
+while-name (assign-step v) = refl
+while-name (if-true v h) = refl
+while-name (if-false v h) = refl
+while-name (while-true v h) = refl
+while-name (while-false v h) = refl
 
 same-step : (S : Rules) (x y : Option (S .Event)) (c d : Config S)
     → _≡_ {A = Next S} (goes x c) (goes y d)
@@ -59,7 +59,7 @@ module _ {full : Limits} {r : Recipe} where
   name-is : {c d : PaperState} {event : Option Event} (u : Rule full r c event d)
       → nameOf u ≡ nameBy (c .active) (c .queue) (d .active)
   name-is (local h) = while-name h
-  name-is (spawn-start d h) = refl
+  name-is (spawn-start d v h) = refl
   name-is return = refl
   name-is yield-suspend = refl
   name-is yield-await = refl
@@ -67,7 +67,7 @@ module _ {full : Limits} {r : Recipe} where
   name-is (schedule-simple {f} {s} {z} {q} h) =
       ap (λ (b : Front). nameTry b (some (task f s z))) (sym (simple-front (kind s) h))
   name-is (schedule-await d) = refl
-  name-is (schedule-guard h) = refl
+  name-is (schedule-guard v h) = refl
   name-is (rotate-await n any) = refl
   name-is (rotate-guard h any) = refl
 
@@ -94,14 +94,14 @@ module _ {full : Limits} {r : Recipe} where
 
   free-rule : {c d : PaperState} {event : Option Event} → Rule full r c event d → Rule unlimited r c event d
   free-rule (local h) = local h
-  free-rule (spawn-start d h) = spawn-start d refl
+  free-rule (spawn-start d v h) = spawn-start d v refl
   free-rule return = return
   free-rule yield-suspend = yield-suspend
   free-rule yield-await = yield-await
   free-rule yield-guard = yield-guard
   free-rule (schedule-simple h) = schedule-simple h
   free-rule (schedule-await d) = schedule-await d
-  free-rule (schedule-guard h) = schedule-guard h
+  free-rule (schedule-guard v h) = schedule-guard v h
   free-rule (rotate-await n any) = rotate-await n any
   free-rule (rotate-guard h any) = rotate-guard h any
 

@@ -10,14 +10,14 @@ use lib.Dec.{eqb, leb}
 use lib.IntN.{ℤ, pos, negsuc}
 use lib.ListN.{length, getD}
 use borrow.Author.Tests.{eq-eqb, le-leb, ltb-true, ltb-false, leb-true, eqb-true}
-use Rattle.rules.specs.Values.{truth}
+use Rattle.rules.specs.Values.{truth, isTrue}
 use Rattle.rules.specs.Recipe.{Expr, Stmt, skip, assign, if, while, spawn, suspend, await, guard, Body, fin, _▸_, Recipe, Env, read, write, value}
 use Rattle.rules.specs.Rest.{_then_, look}
 use Rattle.rules.specs.State.{Task, Store}
 use Rattle.rules.specs.Log.{Event, taken, gave, waits, ended}
-use Rattle.rules.specs.Scheduler.{Readiness, ready, waits-for, at-guard, isReady, noNumber, Rules, Stay, on, back, over, Limit, does, is, count, isLive, readiness, canGo, anyGo, Next, finish, jam, bar, goes, tryOf, jamOr, stay, nextAct, next}
-use Rattle.rules.specs.Steps.{Limits, isDone, valveOf, waitAt, pastAt, spawnAt}
-use Rattle.paper.specs.Paper.{Queue, task, PaperState, running, idle, env, memory, WhileStep, skip-step, assign-step, if-true, if-false, while-true, while-false, Any, here, there, InDom, Done, NotWaiting, Schedulable, simple, wait-over, guard-true, Rule, local, spawn-start, return, yield-suspend, yield-await, yield-guard, schedule-simple, schedule-await, schedule-guard, rotate-await, rotate-guard, Barred, barred, Finished, finished, Stuck, stuck}
+use Rattle.rules.specs.Scheduler.{Readiness, ready, waits-for, at-guard, isReady, noNumber, Rules, Stay, on, back, over, Halt, novalue, Act, does, is, count, isLive, readiness, canGo, anyGo, Next, finish, jam, bar, goes, tryOf, jamOr, stay, nextAct, next}
+use Rattle.rules.specs.Steps.{Limits, isDone, valveOf, waitAt, pastAt, needing, spawnAt}
+use Rattle.paper.specs.Paper.{Queue, task, PaperState, running, idle, env, memory, WhileStep, skip-step, assign-step, if-true, if-false, while-true, while-false, Any, here, there, InDom, Done, NotWaiting, Schedulable, simple, wait-over, guard-true, Rule, local, spawn-start, return, yield-suspend, yield-await, yield-guard, schedule-simple, schedule-await, schedule-guard, rotate-await, rotate-guard, Finished, finished, Stuck, stuck, needs, Lacking, lacking, Barred, limited, no-value}
 use Rattle.paper.specs.Follows.{statements}
 
 -- ---- an await in front, a guard, or another statement
@@ -90,6 +90,15 @@ not-true : (b : Bool) → ¬ (b ≡ true) → b ≡ false
 not-true true h = absurd (h refl)
 not-true false h = refl
 
+-- the next statement has no expression to be worked out
+no-need : {e : Expr} → ¬ (none ≡ some e)
+no-need h = let z : _≡_ {A = ℕ} 0 1 = cc in omega arith
+
+-- a guard that is true has a value
+true-value : (o : Option ℤ) → isTrue o ≡ true → (v : ℤ) × (o ≡ some v) × (truth v ≡ true)
+true-value none h = absurd (true≢false (sym h))
+true-value (some v) h = (v, refl, h)
+
 module _ (full : Limits) (r : Recipe) where
   abbrev S : Rules
   S = statements full r
@@ -153,14 +162,14 @@ module _ (full : Limits) (r : Recipe) where
         → ¬ Done w σ (read (env σ z) x)
         → Reads w σ (task f (await x ▸ s) z) (waits-for (read (env σ z) x))
     guard-untrue : {f : ℕ} {g : Expr} {s : Body} {z : ℤ}
-        → truth (value (env σ z) g) ≡ false
+        → isTrue (value (env σ z) g) ≡ false
         → Reads w σ (task f (guard g ▸ s) z) at-guard
 
   reads-is : {w : Queue} {σ : Store} {t : Task Body} {v : Readiness} → Reads w σ t v → readiness S (idle w σ) t ≡ v
   unfolding look
   reads-is {w} {σ} (can-go (simple {f} {s} {z} h)) = simple-ready (kind s) h σ (isLive S w) (task f s z)
   reads-is {w} {σ} (can-go (wait-over {f} {x} {s} {z} d)) = rw (done-holds σ w (read (env σ z) x) d)
-  reads-is (can-go (guard-true h)) = rw h
+  reads-is (can-go (guard-true v h)) = rw (v, h)
   reads-is {w} {σ} (has-to-wait {f} {x} {s} {z} n) =
       rw (not-true (isDone (σ .issued) (isLive S w) (read (env σ z) x)) (λ h. n (done-yes σ w (read (env σ z) x) h)))
   reads-is (guard-untrue h) = rw h
@@ -179,10 +188,10 @@ module _ (full : Limits) (r : Recipe) where
           → Reads w σ (task f (await x ▸ s) z) (cond b ready (waits-for v))
       go true h = can-go (wait-over (done-yes σ w v h))
       go false h = has-to-wait (λ d. true≢false (sym (done-holds σ w v d) ∙ h))
-  reads-at (guarded {g} {s}) w σ f z = go (truth (value (env σ z) g)) refl
+  reads-at (guarded {g} {s}) w σ f z = go (isTrue (value (env σ z) g)) refl
     where
-      go : (b : Bool) → truth (value (env σ z) g) ≡ b → Reads w σ (task f (guard g ▸ s) z) (cond b ready at-guard)
-      go true h = can-go (guard-true h)
+      go : (b : Bool) → isTrue (value (env σ z) g) ≡ b → Reads w σ (task f (guard g ▸ s) z) (cond b ready at-guard)
+      go true h = let (v, e, t) = true-value (value (env σ z) g) h in can-go (guard-true e t)
       go false h = guard-untrue h
 
   reads : (w : Queue) (σ : Store) (t : Task Body) → Reads w σ t (readiness S (idle w σ) t)
@@ -212,16 +221,20 @@ module _ (full : Limits) (r : Recipe) where
       → nextAct S q (does σ [] y x) ≡ goes x (stay S σ q y)
   quiet σ q y x = ap (λ (z : Queue). goes x (stay S σ z y)) (append-nil q)
 
+  -- what is done with a value that is there
+  needed : {o : Option ℤ} {v : ℤ} (k : ℤ → Act Store (Task Body) Event) → o ≡ some v → needing o k ≡ k v
+  needed k h = rw h
+
   while-next : {f : ℕ} {s s′ : Body} {σ σ′ : Env} {event : Option Event} (n : ℕ) (q : Queue)
       → WhileStep f s σ event s′ σ′
       → S .act (memory n σ) q (task f s (σ .parameter)) ≡ does (memory n σ′) [] (on (task f s′ (σ′ .parameter))) event
   unfolding look
   while-next n q skip-step = refl
-  while-next n q assign-step = refl
-  while-next n q (if-true h) = rw h
-  while-next n q (if-false h) = rw h
-  while-next n q (while-true h) = rw h
-  while-next n q (while-false h) = rw h
+  while-next n q (assign-step v) = needed _ v
+  while-next n q (if-true v h) = rw (v, h)
+  while-next n q (if-false v h) = rw (v, h)
+  while-next n q (while-true v h) = rw (v, h)
+  while-next n q (while-false v h) = rw (v, h)
 
   -- the front is tried, if some task can go on
   tries : {t : Task Body} {q : Queue} {σ : Store} {v : Readiness}
@@ -235,7 +248,7 @@ module _ (full : Limits) (r : Recipe) where
   unfolding look
   rule-next (local {n = n} {σ′ = σ′} {event = event} {q = q} h) =
       ap (nextAct S q) (while-next n q h) ∙ quiet (memory n σ′) q (on _) event
-  rule-next (spawn-start d h) = rw h
+  rule-next (spawn-start {q = q} d v h) = ap (nextAct S q) (needed _ v) ∙ rw h
   rule-next (return {f} {z} {q} {σ}) = quiet σ q over (some (ended f))
   rule-next (yield-suspend {f} {s} {z} {q} {σ}) = quiet σ q (back (task f s z)) (some (gave f))
   rule-next (yield-await {f} {x} {s} {z} {q} {σ}) =
@@ -245,7 +258,7 @@ module _ (full : Limits) (r : Recipe) where
       tries (here (simple h)) (can-go (simple h))
       ∙ ap (λ (t : Task Body). goes (some (taken f)) (running t q σ)) (simple-past (kind s) h (task f s z))
   rule-next (schedule-await d) = tries (here (wait-over d)) (can-go (wait-over d))
-  rule-next (schedule-guard h) = tries (here (guard-true h)) (can-go (guard-true h))
+  rule-next (schedule-guard v h) = tries (here (guard-true v h)) (can-go (guard-true v h))
   rule-next (rotate-await n any) = tries any (has-to-wait n)
   rule-next (rotate-guard h any) = tries any (guard-untrue h)
 
@@ -258,16 +271,28 @@ module _ (full : Limits) (r : Recipe) where
       ap (λ (b : Bool). jamOr S b (tryOf S (readiness S c t) c t q))
       (not-true (anyGo S c (t ∷ q)) (λ e. h (goes-any (t ∷ q) σ (t ∷ q) e)))
 
-  pub barred-next : {c : PaperState} {l : Limit} → Barred full r l c → next S c ≡ bar l
+  lacking-next : {c : PaperState} → Lacking c → next S c ≡ bar novalue
   unfolding look
-  barred-next (barred h) = rw h
+  lacking-next (lacking {i = skip} n v) = absurd (no-need n)
+  lacking-next (lacking {i = assign x a} {e} n v) = let h : a ≡ e = cc in rw (h, v)
+  lacking-next (lacking {i = if a b} {e} n v) = let h : a ≡ e = cc in rw (h, v)
+  lacking-next (lacking {i = while a b} {e} n v) = let h : a ≡ e = cc in rw (h, v)
+  lacking-next (lacking {i = spawn x m a} {e} n v) = let h : a ≡ e = cc in rw (h, v)
+  lacking-next (lacking {i = suspend} n v) = absurd (no-need n)
+  lacking-next (lacking {i = await x} n v) = absurd (no-need n)
+  lacking-next (lacking {i = guard g} n v) = absurd (no-need n)
+
+  pub barred-next : {c : PaperState} {k : Halt} → Barred full k c → next S c ≡ bar k
+  unfolding look
+  barred-next (limited {q = q} v h) = ap (nextAct S q) (needed _ v) ∙ rw h
+  barred-next (no-value l) = lacking-next l
 
   -- ---- what comes next is a rule that applies, or an end
 
   abbrev pub Says : PaperState → Next S → Type 0
   Says c finish = Finished c
   Says c jam = Stuck c
-  Says c (bar l) = Barred full r l c
+  Says c (bar k) = Barred full k c
   Says c (goes x d) = Rule full r c x d
 
   says-quiet : {c : PaperState} (σ : Store) (q : Queue) (y : Stay (Task Body)) (x : Option Event)
@@ -283,14 +308,27 @@ module _ (full : Limits) (r : Recipe) where
   says-test σ f s s′ z q true g h = says-quiet σ q (on (task f s z)) none (g refl)
   says-test σ f s s′ z q false g h = says-quiet σ q (on (task f s′ z)) none (h refl)
 
-  says-spawn : (σ : Store) (f x m : ℕ) (e : Expr) (s : Body) (z : ℤ) (q : Queue) (o : Option Limit)
+  says-spawn : (σ : Store) (f x m : ℕ) (e : Expr) (s : Body) (z : ℤ) (q : Queue) (v : ℤ) (o : Option Halt)
       → m < length r
+      → value (env σ z) e ≡ some v
       → full (length q) (σ .issued) ≡ o
       → Says
       (running (task f (spawn x m e ▸ s) z) q σ)
-      (nextAct S q (spawnAt o σ (task f (spawn x m e ▸ s) z) x (getD r m fin) (value (env σ z) e) s))
-  says-spawn σ f x m e s z q (some l) d h = barred h
-  says-spawn σ f x m e s z q none d h = spawn-start d h
+      (nextAct S q (spawnAt o σ (task f (spawn x m e ▸ s) z) x (getD r m fin) v s))
+  says-spawn σ f x m e s z q v (some k) d w h = limited w h
+  says-spawn σ f x m e s z q v none d w h = spawn-start d w h
+
+  -- what is done with a value that the step needs
+  says-needing : (σ : Store) (f : ℕ) (i : Stmt) (e : Expr) (s : Body) (z : ℤ) (q : Queue)
+      (k : ℤ → Act Store (Task Body) Event)
+      → needs i ≡ some e
+      → ((v : ℤ) → value (env σ z) e ≡ some v → Says (running (task f (i ▸ s) z) q σ) (nextAct S q (k v)))
+      → Says (running (task f (i ▸ s) z) q σ) (nextAct S q (needing (value (env σ z) e) k))
+  says-needing σ f i e s z q k n g = go (value (env σ z) e) refl
+    where
+      go : (o : Option ℤ) → value (env σ z) e ≡ o → Says (running (task f (i ▸ s) z) q σ) (nextAct S q (needing o k))
+      go none h = no-value (lacking n h)
+      go (some v) h = g v h
 
   -- a spawn that comes first names a procedure of the recipe
   abbrev pub Declared : Body → Type 0
@@ -303,20 +341,24 @@ module _ (full : Limits) (r : Recipe) where
   says-running σ f fin z q d = says-quiet σ q over (some (ended f)) return
   says-running σ f (skip ▸ s) z q d =
       says-quiet σ q (on (task f s z)) none (local {σ = env σ z} {σ′ = env σ z} skip-step)
-  says-running σ f (assign v e ▸ s) z q d =
-      let x = value (env σ z) e in
-      let σ′ = write (env σ z) v x in
-      says-quiet (memory (σ .issued) σ′) q (on (task f s (σ′ .parameter))) (valveOf f v x)
-      (local {σ = env σ z} {σ′ = σ′} assign-step)
+  says-running σ f (assign x e ▸ s) z q d =
+      says-needing σ f (assign x e) e s z q _ refl
+      (λ v h. let σ′ = write (env σ z) x v in
+      says-quiet (memory (σ .issued) σ′) q (on (task f s (σ′ .parameter))) (valveOf f x v)
+      (local {σ = env σ z} {σ′ = σ′} (assign-step h)))
   says-running σ f (if e b ▸ s) z q d =
-      says-test σ f (b then s) s z q (truth (value (env σ z) e))
-      (λ h. local {σ = env σ z} {σ′ = env σ z} (if-true h))
-      (λ h. local {σ = env σ z} {σ′ = env σ z} (if-false h))
+      says-needing σ f (if e b) e s z q _ refl
+      (λ v h. says-test σ f (b then s) s z q (truth v)
+      (λ t. local {σ = env σ z} {σ′ = env σ z} (if-true h t))
+      (λ t. local {σ = env σ z} {σ′ = env σ z} (if-false h t)))
   says-running σ f (while e b ▸ s) z q d =
-      says-test σ f (b then (while e b ▸ s)) s z q (truth (value (env σ z) e))
-      (λ h. local {σ = env σ z} {σ′ = env σ z} (while-true h))
-      (λ h. local {σ = env σ z} {σ′ = env σ z} (while-false h))
-  says-running σ f (spawn x m e ▸ s) z q d = says-spawn σ f x m e s z q (full (length q) (σ .issued)) (d x m e s refl) refl
+      says-needing σ f (while e b) e s z q _ refl
+      (λ v h. says-test σ f (b then (while e b ▸ s)) s z q (truth v)
+      (λ t. local {σ = env σ z} {σ′ = env σ z} (while-true h t))
+      (λ t. local {σ = env σ z} {σ′ = env σ z} (while-false h t)))
+  says-running σ f (spawn x m e ▸ s) z q d =
+      says-needing σ f (spawn x m e) e s z q _ refl
+      (λ v h. says-spawn σ f x m e s z q v (full (length q) (σ .issued)) (d x m e s refl) h refl)
   says-running σ f (suspend ▸ s) z q d = says-quiet σ q (back (task f s z)) (some (gave f)) yield-suspend
   says-running σ f (await x ▸ s) z q d =
       says-quiet σ q (back (task f (await x ▸ s) z)) (some (waits f (read (env σ z) x))) yield-await
@@ -331,7 +373,7 @@ module _ (full : Limits) (r : Recipe) where
   unfolding look
   says-try q any (can-go (simple {f} {s} {z} h)) = rw (simple-past (kind s) h (task f s z)) (schedule-simple h)
   says-try q any (can-go (wait-over d)) = schedule-await d
-  says-try q any (can-go (guard-true h)) = schedule-guard h
+  says-try q any (can-go (guard-true v h)) = schedule-guard v h
   says-try q any (has-to-wait n) = rotate-await n any
   says-try q any (guard-untrue h) = rotate-guard h any
 

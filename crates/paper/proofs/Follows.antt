@@ -6,15 +6,17 @@ use mathlib.Core.Logic.{_↔_, _⊎_, inl, inr}
 use mathlib.Core.Bool.{true}
 use mathlib.Core.Option.{Option, none, some, Option·map}
 use native.Mathlib.Omega.{arith}
+use lib.ListN.{length}
 use Rattle.rules.specs.Recipe.{Recipe, Within}
 use Rattle.rules.specs.Places.{isPlace}
 use Rattle.rules.specs.State.{Task, State, liveTasks}
 use Rattle.rules.specs.Fairness.{Every}
 use Rattle.rules.specs.Log.{Event}
-use Rattle.rules.specs.Scheduler.{Limit, Rules, Next, finish, jam, bar, goes, next}
-use Rattle.rules.specs.Steps.{Limits}
-use Rattle.paper.specs.Paper.{PaperState, unlimited, Rule, Applies, Barred, barred, Finished, Stuck}
-use Rattle.paper.specs.Follows.{places, statements, shownTask, shown, shownNext, Placed, Ends, by-finish, by-jam, by-limit, Follows}
+use Rattle.rules.specs.Scheduler.{Halt, novalue, Rules, Next, finish, jam, bar, goes, next}
+use Rattle.rules.specs.Steps.{Limits, limits}
+use Rattle.rules.proofs.NoValue.{no-limit}
+use Rattle.paper.specs.Paper.{PaperState, unlimited, Rule, Applies, Finished, Stuck, Lacking, Barred, limited, no-value}
+use Rattle.paper.specs.Follows.{places, statements, shownTask, shown, shownNext, Placed, Ends, by-finish, by-jam, by-halt, Follows}
 use Rattle.paper.proofs.Shown.{spawn-declared, same-next, PlacedNext, placed-next}
 use Rattle.paper.proofs.Exact.{DeclaredIn, Says, says, rule-next, finished-next, stuck-next, barred-next}
 use Rattle.paper.proofs.Derivations.{one-rule}
@@ -42,13 +44,13 @@ module _ (full : Limits) (r : Recipe) (w : Within r) (c : State) (p : Placed r c
   abbrev Back : Next R → Next S → Type 0
   Back y finish = y ≡ finish
   Back y jam = y ≡ jam
-  Back y (bar l) = y ≡ bar l
+  Back y (bar k) = y ≡ bar k
   Back y (goes x d) = (e : State) × (y ≡ goes x e) × (shown r e ≡ d)
 
   shown-back : (y : Next R) → Back y (shownNext full r y)
   shown-back finish = refl
   shown-back jam = refl
-  shown-back (bar l) = refl
+  shown-back (bar k) = refl
   shown-back (goes x e) = (e, refl, refl)
 
   back : (z : Next S) → next S (shown r c) ≡ z → Back (next R c) z
@@ -60,8 +62,8 @@ module _ (full : Limits) (r : Recipe) (w : Within r) (c : State) (p : Placed r c
   jams : (next R c ≡ jam) ↔ Stuck (shown r c)
   jams = (λ h. said jam h, λ u. back jam (stuck-next full r u))
 
-  bars : (l : Limit) → (next R c ≡ bar l) ↔ Barred full r l (shown r c)
-  bars l = (λ h. said (bar l) h, λ u. back (bar l) (barred-next full r u))
+  bars : (k : Halt) → (next R c ≡ bar k) ↔ Barred full k (shown r c)
+  bars k = (λ h. said (bar k) h, λ u. back (bar k) (barred-next full r u))
 
   only : (x : Option Event) (d : PaperState)
       → Rule full r (shown r c) x d
@@ -72,7 +74,7 @@ module _ (full : Limits) (r : Recipe) (w : Within r) (c : State) (p : Placed r c
   abbrev Steps : Next R → Type 0
   Steps finish = ⊥
   Steps jam = ⊥
-  Steps (bar l) = ⊥
+  Steps (bar k) = ⊥
   Steps (goes x e) = Unit {0}
 
   steps : Applies full r (shown r c) → Steps (next R c)
@@ -84,33 +86,46 @@ module _ (full : Limits) (r : Recipe) (w : Within r) (c : State) (p : Placed r c
       there : (y : Next R) → next R c ≡ y → ¬ Applies full r (shown r c) → Ends full r c
       there finish h n = by-finish h
       there jam h n = by-jam h
-      there (bar l) h n = by-limit l h
+      there (bar k) h n = by-halt k h
       there (goes x d) h n = absurd (n (x, shown r d, said (goes x d) h))
 
       back-again : Ends full r c → ¬ Applies full r (shown r c)
       back-again (by-finish h) u = subst Steps h (steps u)
       back-again (by-jam h) u = subst Steps h (steps u)
-      back-again (by-limit l h) u = subst Steps h (steps u)
+      back-again (by-halt k h) u = subst Steps h (steps u)
 
--- without limits nothing is barred
-never-barred : {r : Recipe} {l : Limit} {c : PaperState} → ¬ Barred unlimited r l c
-never-barred (barred h) = let z : _≡_ {A = ℕ} 0 1 = cc in omega arith
+-- without limits only a missing value bars a step
+barred-unlimited : {k : Halt} {c : PaperState} → Barred unlimited k c → Lacking c
+barred-unlimited (limited v h) = absurd (let z : _≡_ {A = ℕ} 0 1 = cc in omega arith)
+barred-unlimited (no-value l) = l
+
+barred-novalue : {c : PaperState} → Barred limits novalue c → Lacking c
+barred-novalue (limited {q = q} {σ = σ} v h) = absurd (no-limit (length q) (σ .issued) h)
+barred-novalue (no-value l) = l
+
+-- with these limits 24 comes next exactly where a value is missing
+pub lacks : (r : Recipe) (w : Within r) (c : State) → Placed r c
+    → (next (places limits r) c ≡ bar novalue) ↔ Lacking (shown r c)
+lacks r w c p =
+    let b = bars limits r w c p novalue in
+    (λ h. barred-novalue (b .0 h), λ l. b .1 (no-value l))
 
 module _ (full : Limits) (r : Recipe) (w : Within r) (c : State) (p : Placed r c) where
-  abbrev FinishOrJam : Type 0
-  FinishOrJam = (next (places full r) c ≡ finish) ⊎ (next (places full r) c ≡ jam)
+  abbrev End : Type 0
+  End = (next (places full r) c ≡ finish) ⊎ (next (places full r) c ≡ jam) ⊎ Lacking (shown r c)
 
-  no-rule-unlimited : (¬ Applies unlimited r (shown r c)) ↔ FinishOrJam
+  no-rule-unlimited : (¬ Applies unlimited r (shown r c)) ↔ End
   no-rule-unlimited = (λ n. there (no-rule unlimited r w c p .0 n), λ h. no-rule unlimited r w c p .1 (back-again h))
     where
-      there : Ends unlimited r c → FinishOrJam
+      there : Ends unlimited r c → End
       there (by-finish h) = inl (finishes full r w c p .1 (finishes unlimited r w c p .0 h))
-      there (by-jam h) = inr (jams full r w c p .1 (jams unlimited r w c p .0 h))
-      there (by-limit l h) = absurd (never-barred (bars unlimited r w c p l .0 h))
+      there (by-jam h) = inr (inl (jams full r w c p .1 (jams unlimited r w c p .0 h)))
+      there (by-halt k h) = inr (inr (barred-unlimited (bars unlimited r w c p k .0 h)))
 
-      back-again : FinishOrJam → Ends unlimited r c
+      back-again : End → Ends unlimited r c
       back-again (inl h) = by-finish (finishes unlimited r w c p .1 (finishes full r w c p .0 h))
-      back-again (inr h) = by-jam (jams unlimited r w c p .1 (jams full r w c p .0 h))
+      back-again (inr (inl h)) = by-jam (jams unlimited r w c p .1 (jams full r w c p .0 h))
+      back-again (inr (inr l)) = by-halt novalue (bars unlimited r w c p novalue .1 (no-value l))
 
   -- the theorem of a step
   pub follows : Follows full r c

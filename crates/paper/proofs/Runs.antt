@@ -1,8 +1,8 @@
 -- A run is a derivation of the paper, step for step, and no other.
 -- Assumes nothing.
-use Prim.Native.Nat.{ℕ}
+use Prim.Native.Nat.{ℕ, zero, suc, _-_, _≤_}
 use mathlib.Core.Path.{_≡_, refl, sym, ap, subst}
-use mathlib.Core.Logic.{_↔_, Iff·trans}
+use mathlib.Core.Logic.{_↔_, Iff·rfl, Iff·trans, Iff·and}
 use mathlib.Core.Bool.{true}
 use mathlib.Core.Option.{Option, none, some, Option·map}
 use mathlib.Core.List.{List, [], _∷_, map}
@@ -13,7 +13,7 @@ use Rattle.rules.specs.Recipe.{Body, Recipe, sizeR, Within}
 use Rattle.rules.specs.Table.{check, fine, recipeOf}
 use Rattle.rules.specs.Places.{isPlace, startFrom, start}
 use Rattle.rules.specs.State.{Task, Store, State, liveTasks, live, fresh, checkBlock, readBlock, writeBlock}
-use Rattle.rules.specs.Scheduler.{Rules, finish, jam, next, finished, stuck, numberOf, Run, run, ending, last, stepsOf, log}
+use Rattle.rules.specs.Scheduler.{Rules, novalue, finish, jam, bar, next, finished, paused, stuck, halted, numberOf, Run, run, ending, last, stepsOf, log}
 use Rattle.rules.specs.Steps.{limits, recipes}
 use Rattle.rules.specs.Run.{outcome, roomOf, openOn, runOn}
 use Rattle.rules.specs.Demand.{Bytes}
@@ -30,7 +30,7 @@ use Rattle.paper.specs.Follows.{shownTask, shown, Placed, Derives, Paper
 use Rattle.paper.proofs.Exact.{dom-counted}
 use Rattle.paper.proofs.Derivations.{one-derivation, free}
 use Rattle.paper.proofs.Shown.{place-rest, begins, shown-count}
-use Rattle.paper.proofs.Follows.{follows}
+use Rattle.paper.proofs.Follows.{lacks, follows}
 
 -- a fresh state is the initial configuration
 at-start : (r : Recipe) → Within r → shown r fresh ≡ initial r
@@ -53,6 +53,27 @@ module _ (r : Recipe) (w : Within r) where
       → (numberOf (ending R (run R b k c)) ≡ 2) ↔ (next R (last R (run R b k c)) ≡ jam)
   unfolding numberOf
   says-stuck b k c = by-number R b k c stuck
+
+  -- 24 is "tried after 1"
+  says-novalue : (b k : ℕ) (c : State)
+      → let u = run R b k c in
+      (numberOf (ending R u) ≡ 24) ↔ ((¬ (numberOf (ending R u) ≡ 1)) × (next R (last R u) ≡ bar novalue))
+  unfolding numberOf
+  says-novalue b k c = (
+    λ g. (λ h. omega arith, by-number R b k c (halted novalue) .0 g .1),
+    λ h. by-number R b k c (halted novalue) .1 (unspent (b - stepsOf R u) refl (h .0) (h .1), h .1),
+  )
+    where
+      u : Run R
+      u = run R b k c
+
+      -- without budget left the call would be paused
+      unspent : (n : ℕ) → b - stepsOf R u ≡ n → ¬ (numberOf (ending R u) ≡ 1) → next R (last R u) ≡ bar novalue → 1 ≤ n
+      unspent (suc n) e p h = omega arith
+      unspent zero e p h =
+          let no-end : ¬ (next R (last R u) ≡ finish) = λ g. let z : _≡_ {A = ℕ} 0 1 = cc in omega arith in
+          let no-jam : ¬ (next R (last R u) ≡ jam) = λ g. let z : _≡_ {A = ℕ} 0 1 = cc in omega arith in
+          absurd (p (by-number R b k c paused .1 (e, no-end, no-jam)))
 
   -- ---- the derivation
 
@@ -119,6 +140,8 @@ module _ (t : List ℕ) (bt : Bytes t) (h : check t ≡ fine) where
         only = λ log′ d′ v. rw left (one-derivation v (free whole));
         finished = rw left (Iff·trans (says-finished r w n (roomOf l) c) (tie .ends));
         stuck = rw left (Iff·trans (says-stuck r w n (roomOf l) c) (tie .jams));
+        novalue =
+            rw left (Iff·trans (says-novalue r w n (roomOf l) c) (Iff·and Iff·rfl (lacks r w d (placed r w d fit))));
       }
 
   pub paper-rules : PaperRules t

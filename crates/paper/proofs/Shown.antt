@@ -15,12 +15,13 @@ use Rattle.rules.specs.Places.{Point, nowhere, stop, skips, assigns, tests, spa
 use Rattle.rules.specs.Rest.{rest, look}
 use Rattle.rules.specs.State.{Task, Store, State}
 use Rattle.rules.specs.Log.{Event}
-use Rattle.rules.specs.Scheduler.{Rules, Readiness, ready, waits-for, at-guard, isReady, Stay, on, back, over, Limit, Act, halts, does, is, count, isLive, readiness, anyGo, Next, finish, jam, bar, goes, tryOf, jamOr, nextIdle, stay, nextAct, next}
-use Rattle.rules.specs.Steps.{Limits, envOf, waitAt, pastAt, spawnAt, actAt}
+use Rattle.rules.specs.Scheduler.{Rules, Readiness, ready, waits-for, at-guard, isReady, Stay, on, back, over, Halt, Act, halts, does, is, count, isLive, readiness, anyGo, Next, finish, jam, bar, goes, tryOf, jamOr, nextIdle, stay, nextAct, next}
+use Rattle.rules.specs.Steps.{Limits, envOf, waitAt, pastAt, needing, spawnAt, actAt}
 use Rattle.rules.specs.Fairness.{Every}
 use Rattle.rules.proofs.Lists.{every-append}
 use Rattle.rules.proofs.Ranges.{either}
 use Rattle.rules.proofs.Places.{Fits, none-fits, stop-fits, skip-fits, assign-fits, if-fits, while-fits, spawn-fits, suspend-fits, await-fits, guard-fits, fits, starts, spawn-named, Leads, leads, start-place}
+use Rattle.rules.proofs.NoValue.{needing-all}
 use Rattle.paper.specs.Paper.{Queue}
 use Rattle.paper.specs.Follows.{places, statements, toDo, shownTask, shown, shownNext, Placed}
 
@@ -150,12 +151,19 @@ module _ (r : Recipe) where
   AtAct (halts l) = Unit {0}
   AtAct (does s new y x) = Every At new × AtStay y
 
-  shown-spawn : (o : Option Limit) (s : Store) (t : Task ℕ) (v p : ℕ) (z : ℤ) (k : ℕ)
+  -- what needs a value
+  shown-needing : (o : Option ℤ) (g : ℤ → Act Store (Task Body) Event) (f : ℤ → Act Store (Task ℕ) Event)
+      → ((z : ℤ) → g z ≡ shownAct (f z))
+      → needing o g ≡ shownAct (needing o f)
+  shown-needing none g f h = refl
+  shown-needing (some z) g f h = h z
+
+  shown-spawn : (o : Option Halt) (s : Store) (t : Task ℕ) (v p : ℕ) (z : ℤ) (k : ℕ)
       → spawnAt o s (shownTask r t) v (toDo r p) z (toDo r k) ≡ shownAct (spawnAt o s t v p z k)
   shown-spawn none s t v p z k = refl
   shown-spawn (some l) s t v p z k = refl
 
-  spawn-at : (o : Option Limit) (s : Store) (t : Task ℕ) (v p : ℕ) (z : ℤ) (k : ℕ)
+  spawn-at : (o : Option Halt) (s : Store) (t : Task ℕ) (v p : ℕ) (z : ℤ) (k : ℕ)
       → isPlace r p ≡ true
       → isPlace r k ≡ true
       → AtAct (spawnAt o s t v p z k)
@@ -186,12 +194,14 @@ module _ (full : Limits) (r : Recipe) (w : Within r) where
   shown-act nowhere s q t h = refl
   shown-act stop s q t h = refl
   shown-act (skips k) s q t h = refl
-  shown-act (assigns v e k) s q t h = refl
-  shown-act (tests e k l) s q t h = rw (shown-cond r (truth (value (envOf s t) e)) k l)
+  shown-act (assigns v e k) s q t h = shown-needing r (value (envOf s t) e) _ _ (λ z. refl)
+  shown-act (tests e k l) s q t h =
+      shown-needing r (value (envOf s t) e) _ _ (λ z. rw (shown-cond r (truth z) k l))
   shown-act (spawns v p e k) s q t h =
-      ap₂ (λ (j : ℕ) (b : Body). spawnAt (full j (s .issued)) s (shownTask r t) v b (value (envOf s t) e) (toDo r k))
+      shown-needing r (value (envOf s t) e) _ _
+      (λ z. ap₂ (λ (j : ℕ) (b : Body). spawnAt (full j (s .issued)) s (shownTask r t) v b z (toDo r k))
       (length-map q (shownTask r)) (begins p (h .2))
-      ∙ shown-spawn r (full (length q) (s .issued)) s t v (start r p) (value (envOf s t) e) k
+      ∙ shown-spawn r (full (length q) (s .issued)) s t v (start r p) z k)
   shown-act (suspends k) s q t h = refl
   shown-act (awaits v k) s q t h = refl
   shown-act (guards e k) s q t h = refl
@@ -203,11 +213,13 @@ module _ (full : Limits) (r : Recipe) (w : Within r) where
   act-at nowhere s q t h a = (tt, tt)
   act-at stop s q t h a = (tt, tt)
   act-at (skips k) s q t h a = (tt, h)
-  act-at (assigns v e k) s q t h a = (tt, h .2)
+  act-at (assigns v e k) s q t h a = needing-all (AtAct r) (value (envOf s t) e) _ tt (λ z. (tt, h .2))
   act-at (tests e k l) s q t h a =
-      (tt, either (λ (k : ℕ). isPlace r k ≡ true) (truth (value (envOf s t) e)) (h .1) (h .2))
+      needing-all (AtAct r) (value (envOf s t) e) _ tt
+      (λ z. (tt, either (λ (k : ℕ). isPlace r k ≡ true) (truth z) (h .1) (h .2)))
   act-at (spawns v p e k) s q t h a =
-      spawn-at r (full (length q) (s .issued)) s t v (start r p) (value (envOf s t) e) k (start-place r w p (h .2)) (h .4)
+      needing-all (AtAct r) (value (envOf s t) e) _ tt
+      (λ z. spawn-at r (full (length q) (s .issued)) s t v (start r p) z k (start-place r w p (h .2)) (h .4))
   act-at (suspends k) s q t h a = (tt, h)
   act-at (awaits v k) s q t h a = (tt, a)
   act-at (guards e k) s q t h a = (tt, a)

@@ -14,12 +14,12 @@ use Rattle.rules.specs.Places.{at, isPlace, start}
 use Rattle.rules.specs.Rest.{rest, look}
 use Rattle.rules.specs.State.{Task, State, live, fresh, checkBlock, readBlock}
 use Rattle.rules.specs.Log.{Event, logBytes}
-use Rattle.rules.specs.Scheduler.{Limit, Rules, Next, finish, jam, bar, goes, next}
+use Rattle.rules.specs.Scheduler.{Halt, Rules, Next, finish, jam, bar, goes, next}
 use Rattle.rules.specs.Steps.{Limits, limits, machine}
 use Rattle.rules.specs.Fairness.{Every}
 use Rattle.rules.specs.Run.{Outcome, runOn}
 use Rattle.rules.specs.Demand.{Bytes, written}
-use Rattle.paper.specs.Paper.{task, PaperState, initial, InDom, next-id, unlimited, Rule, Applies, Derivation, Barred, Finished, Stuck, nameOf}
+use Rattle.paper.specs.Paper.{task, PaperState, initial, InDom, next-id, unlimited, Rule, Applies, Derivation, Finished, Stuck, Lacking, Barred, nameOf}
 
 -- document 01's steps, with any limits (with its own they are `recipes r`); the same machine over statements
 abbrev pub places : Limits → Recipe → Rules
@@ -45,7 +45,7 @@ shown r c = record {
 abbrev pub shownNext : (full : Limits) (r : Recipe) → Next (places full r) → Next (statements full r)
 shownNext full r finish = finish
 shownNext full r jam = jam
-shownNext full r (bar l) = bar l
+shownNext full r (bar k) = bar k
 shownNext full r (goes event c) = goes event (shown r c)
 
 -- every task stands at a place
@@ -56,7 +56,7 @@ Placed r c = Every (λ t. isPlace r (t .place) ≡ true) (live c)
 pub data Ends (full : Limits) (r : Recipe) (c : State) : Type 0 where
   by-finish : next (places full r) c ≡ finish → Ends full r c
   by-jam : next (places full r) c ≡ jam → Ends full r c
-  by-limit : (l : Limit) → next (places full r) c ≡ bar l → Ends full r c
+  by-halt : (k : Halt) → next (places full r) c ≡ bar k → Ends full r c
 
 -- ---- a step: by the definition from the state c, and by the paper from what c shows
 
@@ -77,14 +77,15 @@ pub record Follows (full : Limits) (r : Recipe) (c : State) : Type 0 where
       → (u : Rule full r (shown r c) event d)
       → (v : Rule full r (shown r c) event′ d′)
       → (nameOf u ≡ nameOf v) × (event ≡ event′) × (d ≡ d′)
-  -- finished, stuck, stopped by a limit
+  -- finished, stuck, barred by a limit or by a missing value
   pub ends : (next (places full r) c ≡ finish) ↔ Finished (shown r c)
   pub jams : (next (places full r) c ≡ jam) ↔ Stuck (shown r c)
-  pub bars : (l : Limit) → (next (places full r) c ≡ bar l) ↔ Barred full r l (shown r c)
-  -- No rule applies exactly at these; without limits, as in the paper, exactly when the definition says finished or stuck.
+  pub bars : (k : Halt) → (next (places full r) c ≡ bar k) ↔ Barred full k (shown r c)
+  -- No rule applies exactly at these; without limits, as in the paper, exactly when the definition says finished or stuck
+  -- or the step lacks a value.
   pub no-rule : (¬ Applies full r (shown r c)) ↔ Ends full r c
   pub no-rule-unlimited : (¬ Applies unlimited r (shown r c))
-      ↔ ((next (places full r) c ≡ finish) ⊎ (next (places full r) c ≡ jam))
+      ↔ ((next (places full r) c ≡ finish) ⊎ (next (places full r) c ≡ jam) ⊎ Lacking (shown r c))
 
 -- ---- a run: what a call returns and leaves, o, on the table t and the block b, both accepted
 
@@ -104,9 +105,11 @@ pub record Derives (t b : List ℕ) (o : Outcome) : Type 0 where
   pub only : (log′ : List Event) (d : PaperState)
       → Derivation unlimited (recipeOf t) (shownBlock t b) (o .steps) log′ d
       → (log′ ≡ log) × (d ≡ shownBlock t (o .block))
-  -- 0 and 2 are answered exactly at the paper's ends
+  -- 0 and 2 are answered exactly at the paper's ends; request 2.2 of document 02: 24, "tried after 1", exactly where the
+  -- next step lacks a value and the call is not paused there
   pub finished : (o .number ≡ 0) ↔ Finished (shownBlock t (o .block))
   pub stuck : (o .number ≡ 2) ↔ Stuck (shownBlock t (o .block))
+  pub novalue : (o .number ≡ 24) ↔ ((¬ (o .number ≡ 1)) × Lacking (shownBlock t (o .block)))
 
 -- ---- the theorem: what holds of every accepted table
 

@@ -1,7 +1,7 @@
 -- Document 002 (Hähnle and Henrio 2023): the configurations of section 3.1 and the rules of figure 4, with the queue of
 -- section 7.2, and those of figure 7, by which section 8 would add guards to CoopWhile. Each rule stands under its own name,
--- and says where document 01, or for guards request 2.1 of document 02, has us differ. The figures number no rule; the
--- numbers are those of section 7.2, and (9) and (10) of section 6.
+-- and says where document 01, or document 02 by its requests 2.1 (guards) and 2.2 (expressions without a value), has us
+-- differ. The figures number no rule; the numbers are those of section 7.2, and (9) and (10) of section 6.
 -- Assumes nothing.
 use Prim.Native.Nat.{ℕ, suc, _≤_, _<_}
 use mathlib.Core.Path.{_≡_}
@@ -10,12 +10,12 @@ use mathlib.Core.Option.{Option, none, some}
 use mathlib.Core.List.{List, [], _∷_, _++_}
 use lib.IntN.{ℤ, pos}
 use lib.ListN.{length, getD, replicate}
-use Rattle.rules.specs.Values.{truth}
-use Rattle.rules.specs.Recipe.{Expr, skip, assign, if, while, spawn, suspend, await, guard, Body, fin, _▸_, Recipe, Env, read, write, value}
+use Rattle.rules.specs.Values.{truth, isTrue}
+use Rattle.rules.specs.Recipe.{Expr, Stmt, skip, assign, if, while, spawn, suspend, await, guard, Body, fin, _▸_, Recipe, Env, read, write, value}
 use Rattle.rules.specs.Rest.{_then_}
 use Rattle.rules.specs.State.{Task, Store, Configuration}
 use Rattle.rules.specs.Log.{Event, spawned, taken, gave, waits, turned, ended}
-use Rattle.rules.specs.Scheduler.{noNumber, Limit, logOf}
+use Rattle.rules.specs.Scheduler.{noNumber, Halt, novalue, logOf}
 use Rattle.rules.specs.Steps.{Limits, valveOf}
 
 -- ---- configurations
@@ -59,21 +59,28 @@ initial r = running (task 1 (getD r 0 fin) (pos 0)) [] (record { issued = 1; var
 
 -- "(s, σ) → (s′, σ′)": one step of While, by the task f. The paper takes this relation as known; here the test of an if
 -- or a while is one step with the move that it causes. (The event is document 01's log record, as for all rules.)
+-- We differ by the premise that there is a value, here and in each rule with an expression: in the paper "expression
+-- evaluation does not get stuck", by request 2.2 of document 02 it "gives a value or "no value"".
 pub data WhileStep (f : ℕ) : Body → Env → Option Event → Body → Env → Type 0 where
   skip-step : {s : Body} {σ : Env} → WhileStep f (skip ▸ s) σ none s σ
-  assign-step : {v : ℕ} {e : Expr} {s : Body} {σ : Env}
-      → WhileStep f (assign v e ▸ s) σ (valveOf f v (value σ e)) s (write σ v (value σ e))
-  if-true : {e : Expr} {b s : Body} {σ : Env}
-      → truth (value σ e) ≡ true
+  assign-step : {v : ℕ} {e : Expr} {z : ℤ} {s : Body} {σ : Env}
+      → value σ e ≡ some z
+      → WhileStep f (assign v e ▸ s) σ (valveOf f v z) s (write σ v z)
+  if-true : {e : Expr} {v : ℤ} {b s : Body} {σ : Env}
+      → value σ e ≡ some v
+      → truth v ≡ true
       → WhileStep f (if e b ▸ s) σ none (b then s) σ
-  if-false : {e : Expr} {b s : Body} {σ : Env}
-      → truth (value σ e) ≡ false
+  if-false : {e : Expr} {v : ℤ} {b s : Body} {σ : Env}
+      → value σ e ≡ some v
+      → truth v ≡ false
       → WhileStep f (if e b ▸ s) σ none s σ
-  while-true : {e : Expr} {b s : Body} {σ : Env}
-      → truth (value σ e) ≡ true
+  while-true : {e : Expr} {v : ℤ} {b s : Body} {σ : Env}
+      → value σ e ≡ some v
+      → truth v ≡ true
       → WhileStep f (while e b ▸ s) σ none (b then (while e b ▸ s)) σ
-  while-false : {e : Expr} {b s : Body} {σ : Env}
-      → truth (value σ e) ≡ false
+  while-false : {e : Expr} {v : ℤ} {b s : Body} {σ : Env}
+      → value σ e ≡ some v
+      → truth v ≡ false
       → WhileStep f (while e b ▸ s) σ none s σ
 
 -- ---- waiting
@@ -109,8 +116,9 @@ pub data Schedulable (q : Queue) (σ : Store) : Task Body → Type 0 where
   wait-over : {f x : ℕ} {s : Body} {z : ℤ}
       → Done q σ (read (env σ z) x)
       → Schedulable q σ (task f (await x ▸ s) z)
-  guard-true : {f : ℕ} {g : Expr} {s : Body} {z : ℤ}
-      → truth (value (env σ z) g) ≡ true
+  guard-true : {f : ℕ} {g : Expr} {s : Body} {z v : ℤ}
+      → value (env σ z) g ≡ some v
+      → truth v ≡ true
       → Schedulable q σ (task f (guard g ▸ s) z)
 
 -- ---- the rules
@@ -137,16 +145,17 @@ module _ (full : Limits) (r : Recipe) where
         (running (task f s′ (σ′ .parameter)) q (memory n σ′))
     -- SpawnStart, with the queue of figure 5; (22) and then (18), whose task marker is here the procedure's statements.
     -- "f′ ∉ dom(T) ∪ {f}": f′ is the next number, which no task has had. "m(z){s′} ∈ M": the recipe has a procedure m.
-    -- We differ by the premise on limits.
-    spawn-start : {f x m : ℕ} {e : Expr} {s : Body} {z : ℤ} {q : Queue} {σ : Store}
+    -- We differ by the premise on limits, and by that on the argument's value.
+    spawn-start : {f x m : ℕ} {e : Expr} {s : Body} {z a : ℤ} {q : Queue} {σ : Store}
         → m < length r
+        → value (env σ z) e ≡ some a
         → full (length q) (σ .issued) ≡ none
         → Rule
         (running (task f (spawn x m e ▸ s) z) q σ)
         (some (spawned f (next-id σ)))
         (running
         (task f s (put-id σ z x .parameter))
-        (push q (task (next-id σ) (getD r m fin) (value (env σ z) e)))
+        (push q (task (next-id σ) (getD r m fin) a))
         (memory (next-id σ) (put-id σ z x)))
     -- Return; (22) and then (23). The statement return, "only used for this purpose", is here the end of the statements.
     -- So the main block, behind which section 3.1 puts no return, ends too: as by (23).
@@ -176,10 +185,11 @@ module _ (full : Limits) (r : Recipe) where
     schedule-await : {f x : ℕ} {s : Body} {z : ℤ} {q : Queue} {σ : Store}
         → Done (task f (await x ▸ s) z ∷ q) σ (read (env σ z) x)
         → Rule (idle (task f (await x ▸ s) z ∷ q) σ) (some (taken f)) (running (task f s z) q σ)
-    -- ScheduleGuardDone of figure 7; (20) with (9). "When tried it passes only if the expression is true then": worked out
-    -- with the waiting task's own parameter.
-    schedule-guard : {f : ℕ} {g : Expr} {s : Body} {z : ℤ} {q : Queue} {σ : Store}
-        → truth (value (env σ z) g) ≡ true
+    -- ScheduleGuardDone of figure 7, "val_σ(g) = True"; (20) with (9). "When tried it passes only if the expression is true
+    -- then": worked out with the waiting task's own parameter.
+    schedule-guard : {f : ℕ} {g : Expr} {s : Body} {z v : ℤ} {q : Queue} {σ : Store}
+        → value (env σ z) g ≡ some v
+        → truth v ≡ true
         → Rule (idle (task f (guard g ▸ s) z ∷ q) σ) (some (taken f)) (running (task f s z) q σ)
     -- "the queue is rotated in rule ScheduleAwaitWait" (figure 5); (21). We differ by the last premise: "Document 002's
     -- rotation could turn a queue of waiters for ever; here that is "stuck"."
@@ -190,9 +200,10 @@ module _ (full : Limits) (r : Recipe) where
         (idle (task f (await x ▸ s) z ∷ q) σ)
         (some (turned f (read (env σ z) x)))
         (idle (push q (task f (await x ▸ s) z)) σ)
-    -- ScheduleGuardWait of figure 7; (10): "and otherwise it is turned". We differ by the last premise, as for an await.
+    -- ScheduleGuardWait of figure 7, "val_σ(g) = False"; (10): "and otherwise it is turned". We differ by the last premise,
+    -- as for an await, and in that the rule applies without a value too: "A guard without a value counts as untrue."
     rotate-guard : {f : ℕ} {g : Expr} {s : Body} {z : ℤ} {q : Queue} {σ : Store}
-        → truth (value (env σ z) g) ≡ false
+        → isTrue (value (env σ z) g) ≡ false
         → Any (Schedulable (task f (guard g ▸ s) z ∷ q) σ) (task f (guard g ▸ s) z ∷ q)
         → Rule
         (idle (task f (guard g ▸ s) z ∷ q) σ)
@@ -211,11 +222,7 @@ module _ (full : Limits) (r : Recipe) where
         → Derivation d n log e
         → Derivation c (suc n) (logOf event ++ log) e
 
-  -- the next statement is a spawn, and a limit stops it
-  pub data Barred (l : Limit) : PaperState → Type 0 where
-    barred : {f x m : ℕ} {e : Expr} {s : Body} {z : ℤ} {q : Queue} {σ : Store}
-        → full (length q) (σ .issued) ≡ some l
-        → Barred l (running (task f (spawn x m e ▸ s) z) q σ)
+-- ---- where no rule applies
 
 -- "final configurations have the form sh, (Idle, ∅)"
 pub data Finished : PaperState → Type 0 where
@@ -227,6 +234,34 @@ pub data Stuck : PaperState → Type 0 where
       → ¬ Any (Schedulable (t ∷ q) σ) (t ∷ q)
       → Stuck (idle (t ∷ q) σ)
 
+-- request 2.2: "the expression of the next set, test or spawn"
+abbrev pub needs : Stmt → Option Expr
+needs skip = none
+needs (assign v e) = some e
+needs (if e b) = some e
+needs (while e b) = some e
+needs (spawn x m e) = some e
+needs suspend = none
+needs (await x) = none
+needs (guard g) = none
+
+-- it "has no value". The paper has no such end: its expressions always have one.
+pub data Lacking : PaperState → Type 0 where
+  lacking : {f : ℕ} {i : Stmt} {e : Expr} {s : Body} {z : ℤ} {q : Queue} {σ : Store}
+      → needs i ≡ some e
+      → value (env σ z) e ≡ none
+      → Lacking (running (task f (i ▸ s) z) q σ)
+
+-- what bars the active task's step
+pub data Barred (full : Limits) : Halt → PaperState → Type 0 where
+  -- the next statement is a spawn, and a limit stops it: its argument has a value, as 24 is "tried .. before 3"
+  limited : {k : Halt} {f x m : ℕ} {e : Expr} {s : Body} {z v : ℤ} {q : Queue} {σ : Store}
+      → value (env σ z) e ≡ some v
+      → full (length q) (σ .issued) ≡ some k
+      → Barred full k (running (task f (spawn x m e ▸ s) z) q σ)
+  -- "The step that needed it is not done."
+  no-value : {c : PaperState} → Lacking c → Barred full novalue c
+
 -- ---- the names of the rules
 
 pub data Name : Type 0 where
@@ -235,13 +270,13 @@ pub data Name : Type 0 where
 
 abbrev pub nameOf : {full : Limits} {r : Recipe} {c d : PaperState} {event : Option Event} → Rule full r c event d → Name
 nameOf (local h) = Local
-nameOf (spawn-start d h) = SpawnStart
+nameOf (spawn-start d v h) = SpawnStart
 nameOf return = Return
 nameOf yield-suspend = YieldSuspend
 nameOf yield-await = YieldAwait
 nameOf yield-guard = YieldGuard
 nameOf (schedule-simple h) = ScheduleSimple
 nameOf (schedule-await h) = ScheduleAwait
-nameOf (schedule-guard h) = ScheduleGuardDone
+nameOf (schedule-guard v h) = ScheduleGuardDone
 nameOf (rotate-await h g) = ScheduleAwaitWait
 nameOf (rotate-guard h g) = ScheduleGuardWait

@@ -2,15 +2,16 @@
 -- Assumes nothing.
 use Prim.Native.Nat.{ℕ, _+_, _*_, _≤_, _<_}
 use mathlib.Core.Path.{_≡_, refl}
+use mathlib.Core.Bool.{true, false}
 use mathlib.Core.List.{List, [], _++_}
 use native.Mathlib.Omega.{arith}
 use native.Mathlib.Numerals.{add-one}
 use lib.ListN.{length, length-append}
-use borrow.Author.Tests.{lt-ltb, le-ltb, eq-eqb, ne-eqb}
+use borrow.Author.Tests.{eq-eqb, ne-eqb}
 use Rattle.rules.specs.Fields.{signed}
 use Rattle.rules.specs.State.{joined}
 use Rattle.rules.specs.Run.{Started, startOn, Outcome, runOn}
-use Rattle.rules.specs.Print.{line, lineAt, lines, endingLine, refusedLine, runText, startText, textOn}
+use Rattle.rules.specs.Print.{line, lineAt, lines, endingLine, refusedLine, ends, runText, startText, textOn}
 use Rattle.text.proofs.Words.{kind-length, ending-length}
 use Rattle.text.proofs.Numbers.{decimal-length, value-length}
 
@@ -39,13 +40,13 @@ lines-more l n = rw add-one refl
 
 -- ---- runs
 
-pub run-refused : (o : Outcome) → 5 < o .number → runText o ≡ refusedLine (o .number) (o .place)
+pub run-refused : (o : Outcome) → ends (o .number) ≡ false → runText o ≡ refusedLine (o .number) (o .place)
 unfolding runText
-run-refused o h = rw (lt-ltb 5 (o .number) h) refl
+run-refused o h = rw h refl
 
-pub run-ended : (o : Outcome) → o .number ≤ 5 → runText o ≡ lines (o .log) (o .records) ++ endingLine (o .number) (o .steps)
+pub run-ended : (o : Outcome) → ends (o .number) ≡ true → runText o ≡ lines (o .log) (o .records) ++ endingLine (o .number) (o .steps)
 unfolding runText
-run-ended o h = rw (le-ltb 5 (o .number) h) refl
+run-ended o h = rw h refl
 
 module _ (t b l : List ℕ) (s : Started) (e : s ≡ startOn t b) where
   pub start-refused : (s .number ≡ 0 → ⊥) → textOn t b l ≡ refusedLine (s .number) (s .place)

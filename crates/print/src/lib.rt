@@ -14,7 +14,7 @@ ghost use mathlib.Core.List.{[], _++_};
 ghost use Prim.Native.Nat.{_+_, _*_, _≤_};
 ghost use lib.ListN.{length, drop};
 ghost use Rattle.rules.specs.Fields.{signed};
-ghost use Rattle.rules.specs.Print.{line, lineAt, lines, endingLine, refusedLine, runText, textOn, printed};
+ghost use Rattle.rules.specs.Print.{line, lineAt, lines, endingLine, refusedLine, ends, runText, textOn, printed};
 ghost use Rattle.rules.specs.Run.{roomOf};
 ghost use Rattle.runner.specs.Calls.{outcomeOf};
 ghost use Rattle.text.specs.Puts.{Puts};
@@ -85,13 +85,23 @@ fn put_refused(b: &mut [u8], at: usize, number: u32, place: u32) -> usize
     put_word(b, i, b"\n")
 }
 
+// Whether a run ended with this number, and was not refused.
+fn is_ending(number: u32) -> bool
+    ensures { λ r. ⌜ r ≡ ends number ⌝ }
+{
+    if number <= 5 {
+        return true;
+    }
+    number == 24
+}
+
 // A run's text.
 fn put_run(b: &mut [u8], a: Answer, log: &[u8]) -> usize
     requires { ⌜ 8 * a .records ≤ length (now log) ⌝ }
     requires { ⌜ 30 * a .records + 30 ≤ length (now b) ⌝ }
     ensures { λ r. ⌜ Puts (now (b .entry)) 0 (runText (outcomeOf a [] (now (log .entry)))) r (now (b .exit)) ⌝ }
 {
-    if 5 < a.number {
+    if !is_ending(a.number) {
         return put_refused(b, 0, a.number, a.place);
     }
     let at = put_lines(b, log, a.records as usize);

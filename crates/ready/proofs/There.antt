@@ -13,7 +13,7 @@ use lib.ListN.{length, getD, drop, length-drop, List·getD-eq-default}
 use lib.Seq.{getD-drop}
 use borrow.Author.Tests.{ne-eqb, leb-true, eqb-true}
 use Rattle.rules.specs.Demand.{Bytes}
-use Rattle.rules.specs.Values.{truth}
+use Rattle.rules.specs.Values.{isTrue}
 use Rattle.rules.specs.Fields.{signed}
 use Rattle.rules.specs.Recipe.{Expr, Recipe, read, value}
 use Rattle.rules.specs.Table.{kindOf, nameOf, spanOf, inner, exprOf, records, fine, check, recipeOf}
@@ -88,10 +88,10 @@ module _ (x : Point ℕ) (s : Store) (live : ℕ → Bool) (t : Task ℕ) where
     wait-on h = rw (e, h)
 
   module _ (g : Expr) (k : ℕ) (e : x ≡ guards g k) where
-    pub guard-true : truth (value (envOf s t) g) ≡ true → waitAt x s live t ≡ ready
+    pub guard-true : isTrue (value (envOf s t) g) ≡ true → waitAt x s live t ≡ ready
     guard-true h = rw (e, h)
 
-    pub guard-untrue : truth (value (envOf s t) g) ≡ false → waitAt x s live t ≡ at-guard
+    pub guard-untrue : isTrue (value (envOf s t) g) ≡ false → waitAt x s live t ≡ at-guard
     guard-untrue h = rw (e, h)
 
 never : {P : Type 0} {z : ℤ} → ready ≡ waits-for z → P
@@ -110,7 +110,7 @@ waits-at (awaits n k) s live t z h = by (isDone (s .issued) live (read (envOf s 
     by : (b : Bool) → isDone (s .issued) live (read (envOf s t) n) ≡ b → cond b ready (waits-for (read (envOf s t) n)) ≡ waits-for z → isDone (s .issued) live z ≡ false
     by true e g = never g
     by false e g = let same : read (envOf s t) n ≡ z = cc in rw same at e
-waits-at (guards e k) s live t z h = by (truth (value (envOf s t) e)) h
+waits-at (guards e k) s live t z h = by (isTrue (value (envOf s t) e)) h
   where
     by : (b : Bool) → cond b ready at-guard ≡ waits-for z → isDone (s .issued) live z ≡ false
     by true g = never g
@@ -286,9 +286,9 @@ module _ {t : List ℕ} {i : ℕ} (p : Place t i) where
         by false e = wait-on _ s live u _ _ (a .is) e
 
     pub waits-guard : (a : Guard) → waitAt (at (recipeOf t) i) s live u ≡ at-guard
-    waits-guard a = by (truth (value (envOf s u) (exprOf (inner (drop (8 * i) t))))) refl
+    waits-guard a = by (isTrue (value (envOf s u) (exprOf (inner (drop (8 * i) t))))) refl
       where
-        by : (b : Bool) → truth (value (envOf s u) (exprOf (inner (drop (8 * i) t)))) ≡ b → waitAt (at (recipeOf t) i) s live u ≡ at-guard
+        by : (b : Bool) → isTrue (value (envOf s u) (exprOf (inner (drop (8 * i) t)))) ≡ b → waitAt (at (recipeOf t) i) s live u ≡ at-guard
         by true e = not-ready (guard-true _ s live u _ _ (a .is) e)
         by false e = guard-untrue _ s live u _ _ (a .is) e
 

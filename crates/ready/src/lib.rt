@@ -1,4 +1,5 @@
 // Which queued tasks are ready. The queue is a ring of packed tasks: `queued` of them, the front at the index `front`.
+use expr::Evaluated;
 use expr::eval;
 use expr::variable;
 use state::Task;
@@ -93,13 +94,16 @@ fn can_wait(kind: u8) -> bool
     kind == 13
 }
 
-// Whether a task at a guard is ready: whether its expression is true now, with the task's own parameter.
+// Whether a task at a guard is ready: whether its expression is true now, with the task's own parameter. Without a value it is untrue.
 fn guarded(table: &[u8], t: Task, variables: &[i32; 64]) -> Wait
     requires { ⌜ (check (now table) ≡ fine) × Placed (recipeOf (now table)) (taskOf t) × (getD (now table) (8 * t .place) 0 ≡ 13) ⌝ }
     ensures { λ r. ⌜ ((c : R.State) → c .store .variables ≡ now (variables .entry) → readinessOf r ≡ readyIn (now (table .entry)) c (taskOf t)) ⌝ }
 {
     let part = from(table, 8 * (t.place as usize));
-    if eval(enclosed(part), variables, t.parameter) == 0 {
+    let Evaluated::Value(v) = eval(enclosed(part), variables, t.parameter) else {
+        return Wait::AtGuard;
+    };
+    if v == 0 {
         return Wait::AtGuard;
     }
     Wait::Ready

@@ -15,7 +15,7 @@ use Rattle.rules.specs.Recipe.{Recipe, Body, skip, assign, if, while, sp
 use Rattle.rules.specs.Table.{Verdict, fine, fault, _else_, unless, Sort, procedure, statement, expression, Ends, at-end, before-end, within, Encloses, nothing, statements, one-expression, expression-statements, two-expressions, recordFault, enclosed, checkE, levels, firstRow, rowsOf, checkRows, checkSpawns, namesNone, procedures, records, lengthFits, check, bodyOf, readR, recipeOf, inner, after, kindOf, kindRow, isOf, spanRight, nameRight, valueRight}
 use Rattle.rules.specs.State.{State, live, fresh, tab, joined, headFits, unlike, taskFits, unusedFits, recordFits, checkRecords, checkBlock, liveIn, issuedIn, readBlock, writeBlock, headRow, taskRow, noTask}
 use Rattle.rules.specs.Log.{Event, spawned, taken, gave, waits, turned, ended, valve, eventRow, logBytes}
-use Rattle.rules.specs.Scheduler.{Ending, finished, paused, stuck, logfull, limit, tasks, spent, numberOf, run, ending, last, log}
+use Rattle.rules.specs.Scheduler.{Ending, finished, paused, stuck, logfull, halted, tasks, spent, novalue, numberOf, run, ending, last, log}
 use Rattle.rules.specs.Run as R
 use Rattle.rules.specs.Steps.{recipes}
 use Rattle.rules.specs.Places.{isPlace, at, pointsB, pointsR}
@@ -134,8 +134,9 @@ ending-published finished = (refl, refl)
 ending-published paused = (refl, refl)
 ending-published stuck = (refl, refl)
 ending-published logfull = (refl, refl)
-ending-published (limit tasks) = (refl, refl)
-ending-published (limit spent) = (refl, refl)
+ending-published (halted tasks) = (refl, refl)
+ending-published (halted spent) = (refl, refl)
+ending-published (halted novalue) = (refl, refl)
 
 pub table-refuses : (n : ℕ) → ofTable n ≡ true → refuses n ≡ true
 table-refuses n h = rw h refl

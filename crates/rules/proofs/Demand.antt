@@ -1,6 +1,6 @@
--- Demand 3 and "continued equals one run", for every table, every block and every list of calls.
+-- Demand 3, "continued equals one run" and the call behind a zero divisor, for every table, every block and every list of calls.
 -- Assumes nothing.
-use Prim.Native.Nat.{ℕ, _+_, _*_, _≤_}
+use Prim.Native.Nat.{ℕ, zero, suc, _+_, _*_, _≤_}
 use mathlib.Core.Path.{_≡_, refl, sym, ap, ap₂, _∙_, subst, subst₂}
 use mathlib.Core.Logic.{_⊎_, ⊎-elim}
 use mathlib.Core.Bool.{true, false≢true}
@@ -13,15 +13,18 @@ use Rattle.rules.specs.Table.{Verdict, fine, fault, _else_, check, recip
 use Rattle.rules.specs.Places.{isPlace}
 use Rattle.rules.specs.State.{State, checkBlock, readBlock, writeBlock}
 use Rattle.rules.specs.Log.{Event, logBytes, eventRow}
-use Rattle.rules.specs.Scheduler.{Run, run, ending, last, stepsOf, log, Ending, logfull, numberOf}
+use Rattle.rules.specs.Scheduler.{novalue, bar, next, Run, run, ending, last, stepsOf, log, Ending, logfull, halted, numberOf}
 use Rattle.rules.specs.Steps.{recipes}
-use Rattle.rules.specs.Run.{Outcome, outcome, roomOf, Opened, refuses, opens, openWith, openOn, runWith, runOn}
+use Rattle.rules.specs.Run.{Outcome, placeOf, outcome, roomOf, Opened, refuses, opens, openWith, openOn, runWith, runOn}
 use Rattle.rules.specs.Moments.{Call, call, answers, finally}
 use Rattle.rules.specs.Fairness.{allSteps, allLogs, allEndings, Allowed}
 use Rattle.rules.specs.Demand.{Bytes, Given, outcomes, lastBlock, stepsSaid, written, logsWritten, numbersSaid, calls, AllRefused, AllRun, DemandOf, Demand, Made, Chained, Meets, Continues, ContinuedIsOne}
+use Rattle.rules.specs.NoValue.{again, StopsAgain}
 use Rattle.rules.specs.Answers as A
 use Rattle.rules.proofs.Answers.{log-length, opened-number}
 use Rattle.rules.proofs.Scheduling.Whole.{steps-add, logs-join, endings-said, one-run}
+use Rattle.rules.proofs.Scheduling.Endings.{ending-by, by-number}
+use Rattle.rules.proofs.NoValue.{no-budget, some-budget}
 use Rattle.rules.proofs.Fit.{Fit}
 use Rattle.rules.proofs.Steps.{run-fits, demand-of-recipes}
 use Rattle.rules.proofs.Issued.{never-twice}
@@ -223,3 +226,31 @@ continued t b bt bb n n′ l l′ whole x = go (openOn t b) refl
     go : (o : Opened) → openOn t b ≡ o → Together t n n′ l l′ whole b (runOn t b n l .block) (runOn t b n l .steps)
     go (refuses k i) e = absurd (not-refused k (opened-number t b k i e) (subst (λ (o : Opened). (runWith o b n l .number ≡ 1) ⊎ (runWith o b n l .number ≡ 5)) e x))
     go (opens r c) e = together t n n′ l l′ whole b r c (open-fits t b r c bt bb e)
+
+-- ---- a call that a zero divisor stopped
+
+module _ (t : List ℕ) (r : Recipe) (w : Within r) (h : check t ≡ fine) (e : r ≡ recipeOf t) (c : State) (f : Fit r c) (n n′ : ℕ) (l l′ : List ℕ) where
+  stopped-again : let o = outcome r (run (recipes r) n (roomOf l) c) l in o .number ≡ 24 → runOn t (o .block) n′ l′ ≡ again o n′ l′
+  unfolding outcome numberOf logBytes
+  stopped-again g =
+      let u = run (recipes r) n (roomOf l) c in
+      let d = last (recipes r) u in
+      let bars : next (recipes r) d ≡ bar novalue = by-number (recipes r) n (roomOf l) c (halted novalue) .0 g .1 in
+      let ends = ending-by (ending (recipes r) u) (halted novalue) g in
+      run-is t r d n′ l′ h e (run-fits r w n (roomOf l) c f) ∙ go n′ d (outcome r u l) refl (ap (λ x. placeOf x d) ends) bars
+    where
+      go : (n′ : ℕ) (d : State) (o : Outcome) → o .block ≡ writeBlock d → o .place ≡ placeOf (halted novalue) d → next (recipes r) d ≡ bar novalue
+          → outcome r (run (recipes r) n′ (roomOf l′) d) l′ ≡ again o n′ l′
+      go zero d o p q g = rw (no-budget (recipes r) d novalue g (roomOf l′), p) refl
+      go (suc b) d o p q g = rw (some-budget (recipes r) d novalue g b (roomOf l′), p, q) refl
+
+-- The call behind one that ended in 24 stops there again.
+pub stops-again : (t b : List ℕ) → Bytes t → Bytes b → StopsAgain t b
+unfolding runOn
+stops-again t b bt bb n n′ l l′ x = go (openOn t b) refl x
+  where
+    go : (o : Opened) → openOn t b ≡ o → runWith o b n l .number ≡ 24 → runOn t (runWith o b n l .block) n′ l′ ≡ again (runWith o b n l) n′ l′
+    go (refuses k i) e x = absurd (false≢true (ap A.refuses (sym x) ∙ opened-number t b k i e))
+    go (opens r c) e x =
+        let o = open-fits t b r c bt bb e in
+        stopped-again t r (o .within) (o .passes) (o .recipe) c (o .fit) n n′ l l′ x

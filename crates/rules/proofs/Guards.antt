@@ -5,7 +5,7 @@ use mathlib.Core.Path.{_≡_, refl, _∙_}
 use mathlib.Core.Bool.{Bool, true, false, cond, true≢false}
 use mathlib.Core.Option.{none}
 use mathlib.Core.List.{List, _∷_, append-nil}
-use Rattle.rules.specs.Values.{truth}
+use Rattle.rules.specs.Values.{isTrue}
 use Rattle.rules.specs.Recipe.{Recipe, read, value}
 use Rattle.rules.specs.Places.{Point, nowhere, stop, skips, assigns, tests, spawns, suspends, awaits, guards, at}
 use Rattle.rules.specs.State.{Task, State}
@@ -43,9 +43,9 @@ module _ (r : Recipe) where
                 → isReady (cond b ready (waits-for (read (envOf (c .store) t) n))) ≡ false → Held r c t
             number true f g = absurd (true≢false g)
             number false f g = not-done n k p f
-        by (guards e k) p g = guarded (truth (value (envOf (c .store) t) e)) refl g
+        by (guards e k) p g = guarded (isTrue (value (envOf (c .store) t) e)) refl g
           where
-            guarded : (b : Bool) → truth (value (envOf (c .store) t) e) ≡ b → isReady (cond b ready at-guard) ≡ false → Held r c t
+            guarded : (b : Bool) → isTrue (value (envOf (c .store) t) e) ≡ b → isReady (cond b ready at-guard) ≡ false → Held r c t
             guarded true f g = absurd (true≢false g)
             guarded false f g = untrue e k p f
 

@@ -10,17 +10,19 @@ use native.Mathlib.Decide.{decLe}
 use lib.Dec.{eqb, ltb}
 use lib.IntN.{ℤ}
 use lib.ListN.{length}
-use Rattle.rules.specs.Recipe.{Recipe, value}
+use Rattle.rules.specs.Recipe.{Recipe, write, value}
 use Rattle.rules.specs.Places.{Point, nowhere, stop, skips, assigns, tests, spawns, suspends, awaits, guards, at, start}
 use Rattle.rules.specs.State.{Store, Task, State}
 use Rattle.rules.specs.Log.{Event, spawned, taken, gave, waits, turned, ended, valve}
-use Rattle.rules.specs.Scheduler.{Readiness, ready, waits-for, at-guard, Limit, Act, halts, does, Next, finish, jam, bar, goes, readiness, anyGo, tryOf, jamOr, nextAct, next, logOf}
-use Rattle.rules.specs.Steps.{limits, valveOf, envOf, spawnAt, actAt, recipes}
+use Rattle.rules.specs.Scheduler.{Readiness, ready, waits-for, at-guard, on, Halt, Act, halts, does, Next, finish, jam, bar, goes, readiness, anyGo, tryOf, jamOr, nextAct, next, logOf}
+use Rattle.rules.specs.Values.{truth}
+use Rattle.rules.specs.Steps.{limits, valveOf, envOf, goTo, moves, spawnAt, actAt, recipes}
 use Rattle.rules.specs.Moments.{Call, Moment, trace}
 use Rattle.rules.specs.Fairness.{records}
 use Rattle.rules.specs.Demand.{givenOut, times, NeverTwice}
 use Rattle.rules.proofs.Scheduling.Induction.{idleC, trace-ind}
 use Rattle.rules.proofs.Scheduling.Along.{stay-store}
+use Rattle.rules.proofs.NoValue.{needing-all}
 use Rattle.rules.proofs.Steps.{is-le, is-other}
 
 module _ (r : Recipe) where
@@ -51,7 +53,7 @@ module _ (r : Recipe) where
   ActGives i (halts k) = Unit {0}
   ActGives i (does s new y x) = Gives i (s .issued) x
 
-  spawn-gives : (o : Option Limit) (s : Store) (t : Task ℕ) (n p : ℕ) (z : ℤ) (k : ℕ) → ActGives (s .issued) (spawnAt o s t n p z k)
+  spawn-gives : (o : Option Halt) (s : Store) (t : Task ℕ) (n p : ℕ) (z : ℤ) (k : ℕ) → ActGives (s .issued) (spawnAt o s t n p z k)
   spawn-gives (some l) s t n p z k = tt
   spawn-gives none s t n p z k =
       let i = suc (s .issued) in
@@ -66,9 +68,12 @@ module _ (r : Recipe) where
   act-gives nowhere s q t = quiet (s .issued) _ (λ n. refl)
   act-gives stop s q t = quiet (s .issued) _ (λ n. refl)
   act-gives (skips k) s q t = quiet (s .issued) _ (λ n. refl)
-  act-gives (assigns v e k) s q t = quiet (s .issued) _ (valve-quiet (t .number) v (value (envOf s t) e))
-  act-gives (tests e k l) s q t = quiet (s .issued) _ (λ n. refl)
-  act-gives (spawns v p e k) s q t = spawn-gives (limits (length q) (s .issued)) s t v (start r p) (value (envOf s t) e) k
+  act-gives (assigns v e k) s q t =
+      needing-all (ActGives (s .issued)) (value (envOf s t) e) (λ z. moves (s .issued) (write (envOf s t) v z) t k [] (valveOf (t .number) v z)) tt (λ z. quiet (s .issued) _ (valve-quiet (t .number) v z))
+  act-gives (tests e k l) s q t =
+      needing-all (ActGives (s .issued)) (value (envOf s t) e) (λ z. does s [] (on (goTo t (cond (truth z) k l))) none) tt (λ z. quiet (s .issued) _ (λ n. refl))
+  act-gives (spawns v p e k) s q t =
+      needing-all (ActGives (s .issued)) (value (envOf s t) e) (λ z. spawnAt (limits (length q) (s .issued)) s t v (start r p) z k) tt (λ z. spawn-gives (limits (length q) (s .issued)) s t v (start r p) z k)
   act-gives (suspends k) s q t = quiet (s .issued) _ (λ n. refl)
   act-gives (awaits v k) s q t = quiet (s .issued) _ (λ n. refl)
   act-gives (guards e k) s q t = quiet (s .issued) _ (λ n. refl)

@@ -17,5 +17,6 @@ pub mod Blocks
 pub mod Faults
 pub mod Demand
 pub mod Guards
+pub mod NoValue
 pub mod Says
 pub mod Witness

@@ -1,15 +1,16 @@
--- The value of an expression is in the range of values, and a write keeps what is.
+-- The value of an expression, if it has one, is in the range of values, and a write keeps what is.
 -- Assumes nothing.
 use Prim.Native.Nat.{ℕ, zero, suc}
 use mathlib.Core.Path.{_≡_, refl, _∙_}
 use mathlib.Core.Bool.{Bool, true, false, not, _&&_, _||_, cond}
+use mathlib.Core.Option.{Option, none, some}
 use mathlib.Core.List.{List, [], _∷_}
 use lib.Dec.{eqb, ltb}
 use lib.IntN.{ℤ, pos, negsuc, negℤ, _+ℤ_, _-ℤ_, _*ℤ_}
-use lib.Signed.{ltZ}
+use lib.Signed.{ltZ, quotZ}
 use lib.ListN.{length, getD, set, length-set}
 use borrow.Author.Tests.{ltb-false}
-use Rattle.rules.specs.Values.{lowest, highest, inRange, clamp, quotient, truth, flag, equal, apply1, apply2}
+use Rattle.rules.specs.Values.{lowest, highest, inRange, clamp, isZero, quotient, truth, flag, equal, apply1, apply2, ofBoth, ofOne}
 use Rattle.rules.specs.Recipe.{Expr, constant, variable, two, one, NamedE, Env, read, write, value}
 use native.Mathlib.Omega.{arith}
 use Rattle.rules.proofs.Numbers.{mag-range}
@@ -34,32 +35,49 @@ clamp-fits (negsuc n) = go (ltb 2147483647 n) refl
     go true e = refl
     go false e = mag-range (negsuc n) (omega (arith, ltb-false 2147483647 n e))
 
+-- a value in the range, or none
+abbrev pub Fits : Option ℤ → Type 0
+Fits none = Unit {0}
+Fits (some z) = inRange z ≡ true
+
+quotient-fits : (a b : ℤ) → Fits (quotient a b)
+unfolding quotient
+quotient-fits a b = either Fits (isZero b) {x = none} {y = some (clamp (quotZ a b))} tt (clamp-fits (quotZ a b))
+
 pub flag-fits : (b : Bool) → inRange (flag b) ≡ true
 flag-fits true = refl
 flag-fits false = refl
 
-apply2-fits : (o : ℕ) (a b : ℤ) → inRange (apply2 o a b) ≡ true
+apply2-fits : (o : ℕ) (a b : ℤ) → Fits (apply2 o a b)
 unfolding apply2
 apply2-fits o a b =
-    either Ranged (eqb o 0) (clamp-fits (a +ℤ b))
-    (either Ranged (eqb o 1) (clamp-fits (a -ℤ b))
-    (either Ranged (eqb o 2) (clamp-fits (a *ℤ b))
-    (either Ranged (eqb o 3) (clamp-fits (quotient a b))
-    (either Ranged (eqb o 4) (flag-fits (ltZ a b))
-    (either Ranged (eqb o 5) (flag-fits (equal a b))
-    (either Ranged (eqb o 6) (flag-fits (truth a && truth b))
-    (flag-fits (truth a || truth b))))))))
+    either Fits (eqb o 0) {x = some (clamp (a +ℤ b))} (clamp-fits (a +ℤ b))
+    (either Fits (eqb o 1) {x = some (clamp (a -ℤ b))} (clamp-fits (a -ℤ b))
+    (either Fits (eqb o 2) {x = some (clamp (a *ℤ b))} (clamp-fits (a *ℤ b))
+    (either Fits (eqb o 3) (quotient-fits a b)
+    (either Fits (eqb o 4) {x = some (flag (ltZ a b))} (flag-fits (ltZ a b))
+    (either Fits (eqb o 5) {x = some (flag (equal a b))} (flag-fits (equal a b))
+    (either Fits (eqb o 6) {x = some (flag (truth a && truth b))} {y = some (flag (truth a || truth b))} (flag-fits (truth a && truth b)) (flag-fits (truth a || truth b))))))))
 
 apply1-fits : (o : ℕ) (a : ℤ) → inRange (apply1 o a) ≡ true
 unfolding apply1
 apply1-fits o a = either Ranged (eqb o 0) (clamp-fits (negℤ a)) (flag-fits (not (truth a)))
 
-pub value-fits : (v : Env) (e : Expr) → NamedE e → ((j : ℕ) → inRange (getD (v .variables) j (pos 0)) ≡ true) → inRange (v .parameter) ≡ true → inRange (value v e) ≡ true
+pub value-fits : (v : Env) (e : Expr) → NamedE e → ((j : ℕ) → inRange (getD (v .variables) j (pos 0)) ≡ true) → inRange (v .parameter) ≡ true → Fits (value v e)
 unfolding value read NamedE
 value-fits v (constant z) h g p = h
 value-fits v (variable n) h g p = either Ranged (eqb n 64) p (g n)
-value-fits v (two o a b) h g p = apply2-fits o (value v a) (value v b)
-value-fits v (one o a) h g p = apply1-fits o (value v a)
+value-fits v (two o a b) h g p = go (value v a) (value v b)
+  where
+    go : (x y : Option ℤ) → Fits (ofBoth (apply2 o) x y)
+    go none y = tt
+    go (some x) none = tt
+    go (some x) (some y) = apply2-fits o x y
+value-fits v (one o a) h g p = go (value v a)
+  where
+    go : (x : Option ℤ) → Fits (ofOne (apply1 o) x)
+    go none = tt
+    go (some x) = apply1-fits o x
 
 set-fits : (l : List ℤ) (i : ℕ) (z : ℤ) → inRange z ≡ true → ((j : ℕ) → inRange (getD l j (pos 0)) ≡ true) → (j : ℕ) → inRange (getD (set l i z) j (pos 0)) ≡ true
 set-fits [] i z h g j = g j

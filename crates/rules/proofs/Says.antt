@@ -3,34 +3,37 @@
 use Prim.Native.Nat.{ℕ, _+_, _*_, _≤_, _<_}
 use mathlib.Core.Path.{_≡_, refl, sym, ap, _∙_, subst}
 use mathlib.Core.Logic.{_↔_, _⊎_, inl, inr, ⊎-elim, dite, Iff·trans}
-use mathlib.Core.Bool.{Bool, true, false, cond, true≢false, false≢true}
+use mathlib.Core.Bool.{Bool, true, false, _&&_, cond, true≢false, false≢true}
 use mathlib.Core.Option.{Option, none, some}
-use mathlib.Core.List.{List, [], _∷_}
+use mathlib.Core.List.{List}
 use native.Mathlib.Omega.{arith}
 use native.Mathlib.Decide.{decLt, ℕ-discrete}
 use lib.Dec.{eqb, leb}
+use lib.IntN.{ℤ}
 use lib.ListN.{length, getD, drop, List·getD-eq-default}
-use borrow.Author.Tests.{eq-eqb, ne-eqb, leb-true, leb-false, eqb-true}
-use Rattle.rules.specs.Recipe.{Recipe, Within, value}
-use Rattle.rules.specs.Table.{Verdict, fine, fault, _else_, records, kindOf, check, recipeOf}
+use borrow.Author.Tests.{eq-eqb, ne-eqb, le-leb, leb-true, leb-false, eqb-true}
+use Rattle.rules.specs.Recipe.{Expr, Recipe, Within, value}
+use Rattle.rules.specs.Table.{Verdict, fine, fault, _else_, records, kindOf, inner, exprOf, check, recipeOf}
 use Rattle.rules.specs.Places.{Point, nowhere, stop, skips, assigns, tests, spawns, suspends, awaits, guards, at, stands, isPlace, start}
 use Rattle.rules.specs.Standing.{nextOf, pointAt}
 use Rattle.rules.specs.State.{Store, Task, State, live, checkBlock, readBlock}
-use Rattle.rules.specs.Log.{Event}
-use Rattle.rules.specs.Scheduler.{Limit, Act, halts, does, bar, nextAct, next, finished, paused, stuck, logfull, limit, numberOf, run, ending, last}
-use Rattle.rules.specs.Steps.{limits, envOf, spawnAt, actAt, recipes}
-use Rattle.rules.specs.Run.{startWith, startOn, outcome, roomOf, Opened, opens, openWith, openOn, runWith, runOn}
+use Rattle.rules.specs.Scheduler.{Halt, novalue, halts, bar, nextAct, next, Ending, finished, paused, stuck, logfull, halted, numberOf, run, ending, last}
+use Rattle.rules.specs.Steps.{limits, envOf, needing, spawnAt, actAt, recipes}
+use Rattle.rules.specs.Run.{startWith, startOn, placeOf, outcome, roomOf, Opened, opens, openWith, openOn, runWith, runOn}
 use Rattle.rules.specs.Run as R
 use Rattle.rules.specs.Demand.{Bytes}
-use Rattle.rules.specs.Answers.{ofTable, refuses, Refused, Accepted, NextSpawns, Says, RunSays, StartSays}
+use Rattle.rules.specs.Answers.{ofTable, refuses, Refused, Accepted, NextSpawns, NextLacks, Says, RunSays, StartSays}
+use Rattle.rules.specs.Fairness.{Every}
+use Rattle.rules.specs.NoValue.{needs}
 use Rattle.rules.proofs.Answers.{Numbers, check-number, ending-published, opened-number, fresh-fits, fresh-read, some-recipe}
-use Rattle.rules.proofs.Fit.{Fit}
+use Rattle.rules.proofs.Fit.{TaskFit, Fit}
 use Rattle.rules.proofs.Steps.{run-fits}
 use Rattle.rules.proofs.Blocks.{fit-read, read-write}
 use Rattle.rules.proofs.Grammar.Theorem.{accepted-spells}
 use Rattle.rules.proofs.Standing.{choose, at-is, at-start, at-end, at-past, kind-at, size}
-use Rattle.rules.proofs.Scheduling.Bound.{jam-stuck, stuck-jam, finish-empty, empty-finish, idle-no-bar}
-use Rattle.rules.proofs.Scheduling.Endings.{stopped, by-number}
+use Rattle.rules.proofs.Scheduling.Bound.{jam-stuck, stuck-jam, finish-empty, empty-finish}
+use Rattle.rules.proofs.Scheduling.Endings.{stopped, ending-by, by-number}
+use Rattle.rules.proofs.NoValue.{neededBy, needs-point, Why, lacks, limited, bars, no-value-holds}
 
 -- ---- a spawn at an index
 
@@ -62,6 +65,48 @@ spawn-point : (p : List ℕ) (i next : ℕ) → isSpawn (pointAt p i next) ≡ e
 unfolding pointAt
 spawn-point p i next = dite (ℕ-discrete (kindOf p) 6) (λ e. rw e refl) (λ h. other-point p i next h ∙ sym (ne-eqb (kindOf p) 6 h))
 
+-- what is needed of a record is of the kinds 3 to 6
+needed-kind : (k : ℕ) (p : List ℕ) (e : Expr) → neededBy k p ≡ some e → (3 ≤ k) × (k ≤ 6) × (exprOf (inner p) ≡ e)
+needed-kind k p e h = go (leb 3 k) (leb k 6) refl refl h
+  where
+    go : (a b : Bool) → leb 3 k ≡ a → leb k 6 ≡ b → cond (a && b) (some (exprOf (inner p))) none ≡ some e → (3 ≤ k) × (k ≤ 6) × (exprOf (inner p) ≡ e)
+    go true true f g h = (leb-true 3 k f, leb-true k 6 g, cc)
+    go true false f g h = absurd (let z : _≡_ {A = ℕ} 0 1 = cc in omega arith)
+    go false b f g h = absurd (let z : _≡_ {A = ℕ} 0 1 = cc in omega arith)
+
+-- a limit bars a spawn whose argument has a value
+spawn-halts : (r : Recipe) (p : Point ℕ) (s : Store) (q : List (Task ℕ)) (u : Task ℕ) (k : Halt) → isSpawn p ≡ true → ((e : Expr) → needs p ≡ some e → ¬ (value (envOf s u) e ≡ none))
+    → limits (length q) (s .issued) ≡ some k → actAt (start r) limits p s q u ≡ halts k
+spawn-halts r nowhere s q u k e n h = absurd (false≢true e)
+spawn-halts r stop s q u k e n h = absurd (false≢true e)
+spawn-halts r (skips l) s q u k e n h = absurd (false≢true e)
+spawn-halts r (assigns v x l) s q u k e n h = absurd (false≢true e)
+spawn-halts r (tests x l m) s q u k e n h = absurd (false≢true e)
+spawn-halts r (suspends l) s q u k e n h = absurd (false≢true e)
+spawn-halts r (awaits v l) s q u k e n h = absurd (false≢true e)
+spawn-halts r (guards x l) s q u k e n h = absurd (false≢true e)
+spawn-halts r (spawns v p x l) s q u k e n h = rw h (go (value (envOf s u) x) (n x refl))
+  where
+    go : (o : Option ℤ) → ¬ (o ≡ none) → needing o (λ z. spawnAt (some k) s u v (start r p) z l) ≡ halts k
+    go none g = absurd (g refl)
+    go (some z) g = refl
+
+-- only 24 names a record
+pub no-record : (e : Ending) (c : State) → ¬ (numberOf e ≡ 24) → placeOf e c ≡ 0
+unfolding numberOf
+no-record finished c h = refl
+no-record paused c h = refl
+no-record stuck c h = refl
+no-record logfull c h = refl
+no-record (halted Halt.tasks) c h = refl
+no-record (halted Halt.spent) c h = refl
+no-record (halted novalue) c h = absurd (h refl)
+
+-- a limit is not 24
+other-halt : {k : Halt} → ¬ (numberOf (halted k) ≡ 24) → ¬ (k ≡ novalue)
+unfolding numberOf
+other-halt n e = n (ap (λ k. numberOf (halted k)) e)
+
 module _ (t : List ℕ) (bytes : Bytes t) (fits : check t ≡ fine) where
   abbrev r : Recipe
   r = recipeOf t
@@ -69,96 +114,96 @@ module _ (t : List ℕ) (bytes : Bytes t) (fits : check t ≡ fine) where
   within : Within r
   within = accepted-spells t bytes fits .within
 
-  -- at a place stands a spawn exactly where the record has kind 6
-  spawn-kind : (i : ℕ) → isPlace r i ≡ true → isSpawn (at r i) ≡ eqb (getD t (8 * i) 0) 6
-  spawn-kind i h =
+  -- what holds of all that its record can say, and of the end behind the last record, holds of what stands at a place
+  by-record : (P : Point ℕ → Type 0) (i : ℕ) → isPlace r i ≡ true → ((next : ℕ) → P (pointAt (drop (8 * i) t) i next)) → (length t ≤ 8 * i → P stop) → P (at r i)
+  by-record P i h f g =
       dite (ℕ-discrete i 0)
       (λ e. absurd (false≢true (sym (ap (isPlace r) e ∙ ap stands (at-start t bytes fits)) ∙ h)))
       (λ some.
       dite (decLt i (records t))
-      (λ l. ap isSpawn (at-is t bytes fits i (omega arith) l) ∙ spawn-point (drop (8 * i) t) i (nextOf (at r i)) ∙ ap (λ (k : ℕ). eqb k 6) (kind-at t (8 * i)))
-      (λ g.
+      (λ l. subst P (sym (at-is t bytes fits i (omega arith) l)) (f (nextOf (at r i))))
+      (λ k.
       dite (decLt (records t) i)
       (λ l. absurd (false≢true (sym (ap stands (at-past t bytes fits i l)) ∙ h)))
-      (λ k.
+      (λ m.
       let e : i ≡ records t = omega arith in
-      let none-there : getD t (8 * i) 0 ≡ 0 = List·getD-eq-default t 0 (omega (arith, size t bytes fits)) in
-      ap isSpawn (ap (at r) e ∙ at-end t bytes fits) ∙ sym (ap (λ (k : ℕ). eqb k 6) none-there))))
+      subst P (sym (ap (at r) e ∙ at-end t bytes fits)) (g (omega (arith, size t bytes fits))))))
 
-  -- ---- what the limits bar
+  -- a spawn exactly where the record has kind 6, an expression that is needed exactly where it has kind 3 to 6
+  spawn-kind : (i : ℕ) → isPlace r i ≡ true → isSpawn (at r i) ≡ eqb (getD t (8 * i) 0) 6
+  spawn-kind i h =
+      by-record (λ x. isSpawn x ≡ eqb (getD t (8 * i) 0) 6) i h
+      (λ next. spawn-point (drop (8 * i) t) i next ∙ ap (λ (k : ℕ). eqb k 6) (kind-at t (8 * i)))
+      (λ l. sym (ap (λ (k : ℕ). eqb k 6) (List·getD-eq-default t 0 l)))
 
-  halts-when : (p : Point ℕ) (s : Store) (q : List (Task ℕ)) (u : Task ℕ) (k : Limit) → actAt (start r) limits p s q u ≡ halts k → (isSpawn p ≡ true) × (limits (length q) (s .issued) ≡ some k)
-  halts-when nowhere s q u k e = absurd (let z : _≡_ {A = ℕ} 0 1 = cc in omega arith)
-  halts-when stop s q u k e = absurd (let z : _≡_ {A = ℕ} 0 1 = cc in omega arith)
-  halts-when (skips l) s q u k e = absurd (let z : _≡_ {A = ℕ} 0 1 = cc in omega arith)
-  halts-when (assigns n x l) s q u k e = absurd (let z : _≡_ {A = ℕ} 0 1 = cc in omega arith)
-  halts-when (tests x l m) s q u k e = absurd (let z : _≡_ {A = ℕ} 0 1 = cc in omega arith)
-  halts-when (suspends l) s q u k e = absurd (let z : _≡_ {A = ℕ} 0 1 = cc in omega arith)
-  halts-when (awaits n l) s q u k e = absurd (let z : _≡_ {A = ℕ} 0 1 = cc in omega arith)
-  halts-when (guards x l) s q u k e = absurd (let z : _≡_ {A = ℕ} 0 1 = cc in omega arith)
-  halts-when (spawns n p x l) s q u k e = (refl, go (limits (length q) (s .issued)) e)
-    where
-      go : (o : Option Limit) → spawnAt o s u n (start r p) (value (envOf s u) x) l ≡ halts k → o ≡ some k
-      go (some j) e = let z : j ≡ k = cc in ap some z
-      go none e = absurd (let z : _≡_ {A = ℕ} 0 1 = cc in omega arith)
+  needs-there : (i : ℕ) → isPlace r i ≡ true → needs (at r i) ≡ neededBy (getD t (8 * i) 0) (drop (8 * i) t)
+  needs-there i h =
+      by-record (λ x. needs x ≡ neededBy (getD t (8 * i) 0) (drop (8 * i) t)) i h
+      (λ next. needs-point (drop (8 * i) t) i next ∙ ap (λ (k : ℕ). neededBy k (drop (8 * i) t)) (kind-at t (8 * i)))
+      (λ l. sym (ap (λ (k : ℕ). neededBy k (drop (8 * i) t)) (List·getD-eq-default t 0 l)))
 
-  halts-then : (p : Point ℕ) (s : Store) (q : List (Task ℕ)) (u : Task ℕ) (k : Limit) → isSpawn p ≡ true → limits (length q) (s .issued) ≡ some k → actAt (start r) limits p s q u ≡ halts k
-  halts-then nowhere s q u k e h = absurd (false≢true e)
-  halts-then stop s q u k e h = absurd (false≢true e)
-  halts-then (skips l) s q u k e h = absurd (false≢true e)
-  halts-then (assigns n x l) s q u k e h = absurd (false≢true e)
-  halts-then (tests x l m) s q u k e h = absurd (false≢true e)
-  halts-then (suspends l) s q u k e h = absurd (false≢true e)
-  halts-then (awaits n l) s q u k e h = absurd (false≢true e)
-  halts-then (guards x l) s q u k e h = absurd (false≢true e)
-  halts-then (spawns n p x l) s q u k e h = rw h refl
+  -- ---- what bars the active task's step, by the table's bytes
 
-  -- a limit bars the next step exactly where that is a spawn
-  record Barred (c : State) (k : Limit) : Type 0 where
-    spawns-next : NextSpawns t c
-    counted : length (live c) ≡ length (c .queue) + 1
-    limited : limits (length (c .queue)) (c .store .issued) ≡ some k
+  module _ (c : State) (f : Fit r c) where
+    -- the active task stands at a place
+    placed : (u : Task ℕ) → c .active ≡ some u → isPlace r (u .place) ≡ true
+    placed u a = (subst (λ (o : Option (Task ℕ)). Every (TaskFit r (c .store)) (live (record { store = c .store; active = o; queue = c .queue }))) a (f .tasks-fit)) .0 .placed
 
-  act-bars : (q : List (Task ℕ)) (a : Act Store (Task ℕ) Event) (k : Limit) → nextAct (recipes r) q a ≡ bar k → a ≡ halts k
-  act-bars q (halts j) k e = let z : j ≡ k = cc in ap halts z
-  act-bars q (does s new y x) k e = absurd (let z : _≡_ {A = ℕ} 0 1 = cc in omega arith)
+    lacks-there : (u : Task ℕ) (e : Expr) → c .active ≡ some u → needs (at r (u .place)) ≡ some e → value (envOf (c .store) u) e ≡ none → NextLacks t c
+    lacks-there u e a n v =
+        let (low, high, is) = needed-kind (getD t (8 * u .place) 0) (drop (8 * u .place) t) e (sym (needs-there (u .place) (placed u a)) ∙ n) in
+        record { task = u; acts = a; from-set = low; to-spawn = high; lacks = ap (value (envOf (c .store) u)) is ∙ v }
 
-  bars : (s : Store) (a : Option (Task ℕ)) (q : List (Task ℕ)) (k : Limit) → Fit r (record { store = s; active = a; queue = q }) → next (recipes r) (record { store = s; active = a; queue = q }) ≡ bar k → Barred (record { store = s; active = a; queue = q }) k
-  bars s none [] k f e = absurd (let z : _≡_ {A = ℕ} 0 1 = cc in omega arith)
-  bars s none (u ∷ q) k f e = absurd (idle-no-bar (recipes r) s u q k e)
-  bars s (some u) q k f e =
-      let h = halts-when (at r (u .place)) s q u k (act-bars q (actAt (start r) limits (at r (u .place)) s q u) k e) in
-      record {
-        spawns-next = record { task = u; acts = refl; is-spawn = eqb-true (getD t (8 * u .place) 0) 6 (sym (spawn-kind (u .place) (f .tasks-fit .0 .placed)) ∙ h .0) };
-        counted = omega arith;
-        limited = h .1;
-      }
+    needed-there : (x : NextLacks t c) → needs (at r (x .task .place)) ≡ some (exprOf (inner (drop (8 * x .task .place) t)))
+    needed-there x = needs-there (x .task .place) (placed (x .task) (x .acts)) ∙ rw (le-leb 3 _ (x .from-set), le-leb _ 6 (x .to-spawn)) refl
 
-  barred : (s : Store) (a : Option (Task ℕ)) (q : List (Task ℕ)) (k : Limit) → Fit r (record { store = s; active = a; queue = q }) → NextSpawns t (record { store = s; active = a; queue = q })
-      → limits (length q) (s .issued) ≡ some k → next (recipes r) (record { store = s; active = a; queue = q }) ≡ bar k
-  barred s none q k f n h = absurd (let e : none ≡ some (n .task) = n .acts in let z : _≡_ {A = ℕ} 0 1 = cc in omega arith)
-  barred s (some u) q k f n h =
-      let e : some u ≡ some (n .task) = n .acts in
-      let same : u ≡ n .task = cc in
-      let kind : eqb (getD t (8 * u .place) 0) 6 ≡ true = rw same (eq-eqb _ 6 (n .is-spawn)) in
-      ap (nextAct (recipes r) q) (halts-then (at r (u .place)) s q u k (spawn-kind (u .place) (f .tasks-fit .0 .placed) ∙ kind) h)
+    novalue-when : (next (recipes r) c ≡ bar novalue) ↔ NextLacks t c
+    novalue-when =
+        let holds = no-value-holds r c in (
+          λ h. let x = holds .not-done .0 h in lacks-there (x .task) (x .expr) (x .acts) (x .needed) (holds .no-value (envOf (c .store) (x .task)) (x .expr) .1 (x .lacks)),
+          λ x.
+              let e = exprOf (inner (drop (8 * x .task .place) t)) in
+              holds .not-done .1 (record { task = x .task; expr = e; acts = x .acts; needed = needed-there x; lacks = holds .no-value (envOf (c .store) (x .task)) e .0 (x .lacks) }),
+        )
+
+    limit-when : (k : Halt) → ¬ (k ≡ novalue) → (next (recipes r) c ≡ bar k) ↔ (NextSpawns t c × (¬ NextLacks t c) × (limits (length (c .queue)) (c .store .issued) ≡ some k))
+    limit-when k other = (λ h. let x = bars r (c .store) (c .active) (c .queue) k h in by (x .task) h (x .acts) refl (x .why), λ h. spawn-bars (h .0) (h .1) (h .2))
+      where
+        -- a step is barred in one way
+        one-way : {k : Halt} → ¬ (k ≡ novalue) → next (recipes r) c ≡ bar k → ¬ NextLacks t c
+        one-way {k} other h x = other (let y = novalue-when .1 x in let z : bar k ≡ bar novalue = sym h ∙ y in cc)
+
+        by : (u : Task ℕ) {j : Halt} → next (recipes r) c ≡ bar k → c .active ≡ some u → k ≡ j → Why r (c .store) (c .queue) u (at r (u .place)) j
+            → NextSpawns t c × (¬ NextLacks t c) × (limits (length (c .queue)) (c .store .issued) ≡ some k)
+        by u h a i (lacks e n v) = absurd (other i)
+        by u h a i (limited n m e l z p v f) = (
+          record { task = u; acts = a; is-spawn = eqb-true (getD t (8 * u .place) 0) 6 (sym (spawn-kind (u .place) (placed u a)) ∙ ap isSpawn p) },
+          one-way other h,
+          f ∙ ap some (sym i),
+        )
+
+        spawn-bars : (n : NextSpawns t c) → ¬ NextLacks t c → limits (length (c .queue)) (c .store .issued) ≡ some k → next (recipes r) c ≡ bar k
+        spawn-bars n g l =
+            let u = n .task in
+            let kind = spawn-kind (u .place) (placed u (n .acts)) ∙ eq-eqb (getD t (8 * u .place) 0) 6 (n .is-spawn) in
+            rw (n .acts) (ap (nextAct (recipes r) (c .queue)) (spawn-halts r (at r (u .place)) (c .store) (c .queue) u k kind (λ e m v. g (lacks-there u e (n .acts) m v)) l))
 
   -- ---- the state that a call leaves, by the call's number
 
-  tasks-when : (queued issued : ℕ) → (limits queued issued ≡ some Limit.tasks) ↔ (31 ≤ queued)
+  tasks-when : (queued issued : ℕ) → (limits queued issued ≡ some Halt.tasks) ↔ (31 ≤ queued)
   unfolding limits
   tasks-when queued issued = go (leb 31 queued) (leb 65535 issued) refl
     where
-      go : (a b : Bool) → leb 31 queued ≡ a → (cond a (some Limit.tasks) (cond b (some Limit.spent) none) ≡ some Limit.tasks) ↔ (31 ≤ queued)
+      go : (a b : Bool) → leb 31 queued ≡ a → (cond a (some Halt.tasks) (cond b (some Halt.spent) none) ≡ some Halt.tasks) ↔ (31 ≤ queued)
       go true b e = (λ h. leb-true 31 queued e, λ h. refl)
       go false true e = (λ h. absurd (let z : _≡_ {A = ℕ} 0 1 = cc in omega arith), λ h. absurd (omega (arith, leb-false 31 queued e)))
       go false false e = (λ h. absurd (let z : _≡_ {A = ℕ} 0 1 = cc in omega arith), λ h. absurd (omega (arith, leb-false 31 queued e)))
 
-  spent-when : (queued issued : ℕ) → (limits queued issued ≡ some Limit.spent) ↔ ((queued < 31) × (65535 ≤ issued))
+  spent-when : (queued issued : ℕ) → (limits queued issued ≡ some Halt.spent) ↔ ((queued < 31) × (65535 ≤ issued))
   unfolding limits
   spent-when queued issued = go (leb 31 queued) (leb 65535 issued) refl refl
     where
-      go : (a b : Bool) → leb 31 queued ≡ a → leb 65535 issued ≡ b → (cond a (some Limit.tasks) (cond b (some Limit.spent) none) ≡ some Limit.spent) ↔ ((queued < 31) × (65535 ≤ issued))
+      go : (a b : Bool) → leb 31 queued ≡ a → leb 65535 issued ≡ b → (cond a (some Halt.tasks) (cond b (some Halt.spent) none) ≡ some Halt.spent) ↔ ((queued < 31) × (65535 ≤ issued))
       go true b e f = (λ h. absurd (let z : _≡_ {A = ℕ} 0 1 = cc in omega arith), λ h. absurd (omega (arith, h .0, leb-true 31 queued e)))
       go false true e f = (λ h. (leb-false 31 queued e, leb-true 65535 issued f), λ h. refl)
       go false false e f = (λ h. absurd (let z : _≡_ {A = ℕ} 0 1 = cc in omega arith), λ h. absurd (omega (arith, h .1, leb-false 65535 issued f)))
@@ -187,20 +232,24 @@ module _ (t : List ℕ) (bytes : Bytes t) (fits : check t ≡ fine) where
               (omega (arith, z .0), (λ g. z .1 (empty-finish (recipes r) c (g .0) (g .1))), λ g. z .2 (stuck-jam (recipes r) c g)),
           λ h. by paused .1 (omega (arith, h .0), (λ g. h .1 (finish-empty (recipes r) c g)), λ g. h .2 (jam-stuck (recipes r) c g)),
         );
+        novalue = (
+          λ h. let z = by (halted novalue) .0 h in (omega (arith, z .0), novalue-when c fit .0 (z .1)),
+          λ h. by (halted novalue) .1 (omega (arith, h .0), novalue-when c fit .1 (h .1)),
+        );
         tasks = (
           λ h.
-              let z = by (limit Limit.tasks) .0 h in
-              let a = bars (c .store) (c .active) (c .queue) Limit.tasks fit (z .1) in
-              (omega (arith, z .0), a .spawns-next, omega (arith, a .counted, tasks-when (length (c .queue)) (c .store .issued) .0 (a .limited), fit .few)),
-          λ h. by (limit Limit.tasks) .1 (omega (arith, h .0), barred (c .store) (c .active) (c .queue) Limit.tasks fit (h .1) (tasks-when (length (c .queue)) (c .store .issued) .1 (omega (arith, h .2, spawning-live c (h .1))))),
+              let z = by (halted Halt.tasks) .0 h in
+              let a = limit-when c fit Halt.tasks (other-halt (λ e. omega arith)) .0 (z .1) in
+              (omega (arith, z .0), a .0, a .1, omega (arith, spawning-live c (a .0), tasks-when (length (c .queue)) (c .store .issued) .0 (a .2), fit .few)),
+          λ h. by (halted Halt.tasks) .1 (omega (arith, h .0), limit-when c fit Halt.tasks (other-halt (λ e. omega arith)) .1 (h .1, h .2, tasks-when (length (c .queue)) (c .store .issued) .1 (omega (arith, h .3, spawning-live c (h .1))))),
         );
         spent = (
           λ h.
-              let z = by (limit Limit.spent) .0 h in
-              let a = bars (c .store) (c .active) (c .queue) Limit.spent fit (z .1) in
-              let (few, many) = spent-when (length (c .queue)) (c .store .issued) .0 (a .limited) in
-              (omega (arith, z .0), a .spawns-next, omega (arith, a .counted), omega (arith, fit .store-fits .issued-fits)),
-          λ h. by (limit Limit.spent) .1 (omega (arith, h .0), barred (c .store) (c .active) (c .queue) Limit.spent fit (h .1) (spent-when (length (c .queue)) (c .store .issued) .1 (omega (arith, h .2, spawning-live c (h .1)), omega (arith, h .3)))),
+              let z = by (halted Halt.spent) .0 h in
+              let a = limit-when c fit Halt.spent (other-halt (λ e. omega arith)) .0 (z .1) in
+              let (few, many) = spent-when (length (c .queue)) (c .store .issued) .0 (a .2) in
+              (omega (arith, z .0), a .0, a .1, omega (arith, spawning-live c (a .0)), omega (arith, fit .store-fits .issued-fits)),
+          λ h. by (halted Halt.spent) .1 (omega (arith, h .0), limit-when c fit Halt.spent (other-halt (λ e. omega arith)) .1 (h .1, h .2, spent-when (length (c .queue)) (c .store .issued) .1 (omega (arith, h .3, spawning-live c (h .1)), omega (arith, h .4)))),
         );
         logfull = (
           λ h.
@@ -209,7 +258,8 @@ module _ (t : List ℕ) (bytes : Bytes t) (fits : check t ≡ fine) where
           λ h. by logfull .1 (omega (arith, h .0), omega (arith, h .2), (h .1 .event, h .1 .after, h .1 .writes)),
         );
         in-budget = in-budget;
-        no-place = refl;
+        names-record = λ h x. rw (ending-by (ending (recipes r) u) (halted novalue) h, x .acts) refl;
+        no-place = no-record (ending (recipes r) u) c;
       }
 
 -- ---- run

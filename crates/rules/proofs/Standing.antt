@@ -2,7 +2,7 @@
 -- Assumes nothing.
 use Prim.Native.Nat.{ℕ, zero, suc, _+_, _*_, _≤_, _<_}
 use mathlib.Core.Path.{_≡_, refl, sym, ap, ap₂, _∙_, subst}
-use mathlib.Core.Bool.{Bool, true, false, _&&_, _||_, cond}
+use mathlib.Core.Bool.{true, false, _&&_, _||_, cond}
 use mathlib.Core.List.{List, [], _∷_, _++_, append-assoc, append-nil}
 use native.Mathlib.Omega.{arith}
 use mathlib.Core.Logic.{dite}
@@ -212,7 +212,7 @@ module _ (n : ℕ) where
 -- ---- a recipe's bytes, and a table's
 
 -- what holds of each point that a chain of tests leads to
-pub choose : (f : Point ℕ → Bool) (v : Bool) (n m : ℕ) (x y : Point ℕ) → f x ≡ v → (¬ (n ≡ m) → f y ≡ v)
+pub choose : {B : Type 0} (f : Point ℕ → B) (v : B) (n m : ℕ) (x y : Point ℕ) → f x ≡ v → (¬ (n ≡ m) → f y ≡ v)
     → f (cond (eqb n m) x y) ≡ v
 choose f v n m x y h g = dite (ℕ-discrete n m) (λ e. rw (eq-eqb n m e) h) (λ e. rw (ne-eqb n m e) (g e))
 

@@ -15,8 +15,8 @@ use Rattle.rules.specs.Recipe.{Expr, Recipe, NamedE, Within, Env, write,
 use Rattle.rules.specs.Places.{Point, nowhere, stop, skips, assigns, tests, spawns, suspends, awaits, guards, at, isPlace, start}
 use Rattle.rules.specs.State.{Store, Task, State}
 use Rattle.rules.specs.Log.{Event}
-use Rattle.rules.specs.Scheduler.{Rules, Readiness, ready, waits-for, at-guard, at-guard, Stay, on, back, over, Limit, Act, halts, does, is, Next, finish, jam, bar, goes, readiness, anyGo, tryOf, jamOr, nextAct, stay, next, run, last}
-use Rattle.rules.specs.Steps.{Limits, limits, envOf, goTo, goWith, pastAt, moves, spawnAt, actAt, machine, recipes}
+use Rattle.rules.specs.Scheduler.{Rules, Readiness, ready, waits-for, at-guard, at-guard, Stay, on, back, over, Halt, Act, halts, does, is, Next, finish, jam, bar, goes, readiness, anyGo, tryOf, jamOr, nextAct, stay, next, run, last}
+use Rattle.rules.specs.Steps.{Limits, limits, valveOf, envOf, goTo, goWith, pastAt, moves, needing, spawnAt, actAt, machine, recipes}
 use Rattle.rules.specs.Moments.{Call}
 use Rattle.rules.specs.Fairness.{Every, Valid, Allowed, Demand3}
 use Rattle.rules.proofs.Scheduling.Lawful.{Keeps, Sound, SoundAct, Lawful}
@@ -27,8 +27,9 @@ use Rattle.rules.proofs.Numbers.{mag-range}
 use Rattle.rules.proofs.Scheduling.Whole.{by-test}
 use Rattle.rules.proofs.Scheduling.Demand.{demand-3}
 use Rattle.rules.proofs.Fit.{StoreFit, TaskFit, Fit}
+use Rattle.rules.proofs.NoValue.{needing-all}
 use Rattle.rules.proofs.Places.{Leads, leads, start-place, place-bound}
-use Rattle.rules.proofs.Ranges.{either, value-fits, EnvFit, write-fits}
+use Rattle.rules.proofs.Ranges.{either, Fits, value-fits, EnvFit, write-fits}
 
 pub is-le : (b : Bool) → is b ≤ 1
 is-le true = omega arith
@@ -56,7 +57,7 @@ module _ {A : Type 0} (see : A → Point A) (begin : ℕ → A) (full : Limits) 
   quiet : (s s′ : Store) (t : Task A) (y : Stay (Task A)) → s .issued ≡ s′ .issued → Keeps R t y → Sound R s t s′ [] y
   quiet s s′ t y e k = record { keeps = k; grows = omega arith; once = λ i. omega arith; fresh = λ i h. refl; within = λ i h. refl }
 
-  sound-spawn : (o : Option Limit) (s : Store) (t : Task A) (n : ℕ) (p : A) (z : ℤ) (k : A) → SoundAct R s t (spawnAt o s t n p z k)
+  sound-spawn : (o : Option Halt) (s : Store) (t : Task A) (n : ℕ) (p : A) (z : ℤ) (k : A) → SoundAct R s t (spawnAt o s t n p z k)
   sound-spawn (some l) s t n p z k = tt
   sound-spawn none s t n p z k =
       let i′ = suc (s .issued) in
@@ -66,9 +67,13 @@ module _ {A : Type 0} (see : A → Point A) (begin : ℕ → A) (full : Limits) 
   sound-at nowhere s q t = quiet s s t over refl tt
   sound-at stop s q t = quiet s s t over refl tt
   sound-at (skips k) s q t = quiet s s t (on (goTo t k)) refl refl
-  sound-at (assigns n e k) s q t = let v = write (envOf s t) n (value (envOf s t) e) in quiet s (record { issued = s .issued; variables = v .variables }) t (on (goWith t (v .parameter) k)) refl refl
-  sound-at (tests e k l) s q t = quiet s s t (on (goTo t (cond (truth (value (envOf s t) e)) k l))) refl refl
-  sound-at (spawns n p e k) s q t = sound-spawn (full (length q) (s .issued)) s t n (begin p) (value (envOf s t) e) k
+  sound-at (assigns n e k) s q t =
+      needing-all (SoundAct R s t) (value (envOf s t) e) (λ z. moves (s .issued) (write (envOf s t) n z) t k [] (valveOf (t .number) n z)) tt
+      (λ z. let v = write (envOf s t) n z in quiet s (record { issued = s .issued; variables = v .variables }) t (on (goWith t (v .parameter) k)) refl refl)
+  sound-at (tests e k l) s q t =
+      needing-all (SoundAct R s t) (value (envOf s t) e) (λ z. does s [] (on (goTo t (cond (truth z) k l))) none) tt (λ z. quiet s s t (on (goTo t (cond (truth z) k l))) refl refl)
+  sound-at (spawns n p e k) s q t =
+      needing-all (SoundAct R s t) (value (envOf s t) e) (λ z. spawnAt (full (length q) (s .issued)) s t n (begin p) z k) tt (λ z. sound-spawn (full (length q) (s .issued)) s t n (begin p) z k)
   sound-at (suspends k) s q t = quiet s s t (back (goTo t k)) refl refl
   sound-at (awaits n k) s q t = quiet s s t (back t) refl refl
   sound-at (guards e k) s q t = quiet s s t (back t) refl refl
@@ -85,7 +90,7 @@ pub room : (queued issued : ℕ) → limits queued issued ≡ none → (queued <
 unfolding limits
 room queued issued h = go (leb 31 queued) (leb 65535 issued) refl refl h
   where
-    go : (a b : Bool) → leb 31 queued ≡ a → leb 65535 issued ≡ b → cond a (some Limit.tasks) (cond b (some Limit.spent) none) ≡ none → (queued < 31) × (issued < 65535)
+    go : (a b : Bool) → leb 31 queued ≡ a → leb 65535 issued ≡ b → cond a (some Halt.tasks) (cond b (some Halt.spent) none) ≡ none → (queued < 31) × (issued < 65535)
     go true b g h e = absurd (let z : _≡_ {A = ℕ} 0 1 = cc in omega arith)
     go false true g h e = absurd (let z : _≡_ {A = ℕ} 0 1 = cc in omega arith)
     go false false g h e = (leb-false 31 queued g, leb-false 65535 issued h)
@@ -141,8 +146,13 @@ module _ (r : Recipe) (w : Within r) where
     went : (k : ℕ) → isPlace r k ≡ true → TaskFit r s (goTo t k)
     went k h = moved (omega arith) f (f .parameter-fits) h
 
-    worked-out : (e : Expr) → NamedE e → inRange (value (envOf s t) e) ≡ true
-    worked-out e h = value-fits (envOf s t) e h (g .variables-fit) (f .parameter-fits)
+    -- what is done with the value of an expression, if it has one
+    needing-fits : (e : Expr) → NamedE e → (k : ℤ → Act Store (Task ℕ) Event) → ((z : ℤ) → inRange z ≡ true → ActFit q (k z)) → ActFit q (needing (value (envOf s t) e) k)
+    needing-fits e h k fits = go (value (envOf s t) e) (value-fits (envOf s t) e h (g .variables-fit) (f .parameter-fits))
+      where
+        go : (o : Option ℤ) → Fits o → ActFit q (needing o k)
+        go none i = tt
+        go (some z) i = fits z i
 
     written : (n : ℕ) (z : ℤ) → inRange z ≡ true → EnvFit 64 (write (envOf s t) n z)
     written n z h = write-fits 64 (envOf s t) n z (record { all-variables = g .all-variables; variables-fit = g .variables-fit; parameter-fits = f .parameter-fits }) h
@@ -157,7 +167,7 @@ module _ (r : Recipe) (w : Within r) where
       stay-fits = moved l f (h .parameter-fits) j;
     }
 
-    spawn-fits : (o : Option Limit) (n p : ℕ) (z : ℤ) (k : ℕ) → limits (length q) (s .issued) ≡ o → isPlace r p ≡ true → inRange z ≡ true → isPlace r k ≡ true → ActFit q (spawnAt o s t n p z k)
+    spawn-fits : (o : Option Halt) (n p : ℕ) (z : ℤ) (k : ℕ) → limits (length q) (s .issued) ≡ o → isPlace r p ≡ true → inRange z ≡ true → isPlace r k ≡ true → ActFit q (spawnAt o s t n p z k)
     spawn-fits (some l) n p z k e h i j = tt
     spawn-fits none n p z k e h i j =
         let (a, b) = room (length q) (s .issued) e in
@@ -170,9 +180,15 @@ module _ (r : Recipe) (w : Within r) where
     act-fits nowhere h = quiet-fits over tt
     act-fits stop h = quiet-fits over tt
     act-fits (skips k) h = quiet-fits (on (goTo t k)) (went k h)
-    act-fits (assigns n e k) h = moves-fits (s .issued) (write (envOf s t) n (value (envOf s t) e)) k [] (omega arith) (g .issued-fits) (written n (value (envOf s t) e) (worked-out e (h .1))) (h .2) (omega arith) tt
-    act-fits (tests e k l) h = quiet-fits (on (goTo t (cond (truth (value (envOf s t) e)) k l))) (went _ (either (λ (k : ℕ). isPlace r k ≡ true) (truth (value (envOf s t) e)) (h .1) (h .2)))
-    act-fits (spawns n p e k) h = spawn-fits (limits (length q) (s .issued)) n (start r p) (value (envOf s t) e) k refl (start-place r w p (h .2)) (worked-out e (h .3)) (h .4)
+    act-fits (assigns n e k) h =
+        needing-fits e (h .1) (λ z. moves (s .issued) (write (envOf s t) n z) t k [] (valveOf (t .number) n z))
+        (λ z i. moves-fits (s .issued) (write (envOf s t) n z) k [] (omega arith) (g .issued-fits) (written n z i) (h .2) (omega arith) tt)
+    act-fits (tests e k l) h =
+        needing-fits e (h .0) (λ z. does s [] (on (goTo t (cond (truth z) k l))) none)
+        (λ z i. quiet-fits (on (goTo t (cond (truth z) k l))) (went _ (either (λ (k : ℕ). isPlace r k ≡ true) (truth z) (h .1) (h .2))))
+    act-fits (spawns n p e k) h =
+        needing-fits e (h .3) (λ z. spawnAt (limits (length q) (s .issued)) s t n (start r p) z k)
+        (λ z i. spawn-fits (limits (length q) (s .issued)) n (start r p) z k refl (start-place r w p (h .2)) i (h .4))
     act-fits (suspends k) h = quiet-fits (back (goTo t k)) (went k h)
     act-fits (awaits n k) h = quiet-fits (back t) f
     act-fits (guards e k) h = quiet-fits (back t) f

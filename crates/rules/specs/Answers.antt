@@ -8,17 +8,17 @@ use mathlib.Core.Option.{none, some}
 use mathlib.Core.List.{List, []}
 use lib.Dec.{eqb, leb}
 use lib.ListN.{length, getD, drop}
-use Rattle.rules.specs.Recipe.{Recipe}
-use Rattle.rules.specs.Table.{fine, fault, check, recipeOf}
+use Rattle.rules.specs.Recipe.{Recipe, value}
+use Rattle.rules.specs.Table.{inner, exprOf, fine, fault, check, recipeOf}
 use Rattle.rules.specs.Places.{isPlace}
 use Rattle.rules.specs.State.{Task, State, live, fresh, checkBlock, readBlock}
 use Rattle.rules.specs.Log.{Event}
 use Rattle.rules.specs.Scheduler.{goes, next}
-use Rattle.rules.specs.Steps.{recipes}
+use Rattle.rules.specs.Steps.{envOf, recipes}
 use Rattle.rules.specs.Run.{Started, Outcome}
 use Rattle.rules.specs.Fairness.{Stuck}
 
--- "answers from the published list": 0 to 5, or a refusal, 11 to 17 for the table and 21 to 23 for the block
+-- "answers from the published list": 0 to 5 or 24 (request 2.2 of document 02), or a refusal, 11 to 17 for the table and 21 to 23 for the block
 abbrev pub ofTable : ℕ → Bool
 ofTable n = leb 11 n && leb n 17
 
@@ -29,7 +29,7 @@ abbrev pub refuses : ℕ → Bool
 refuses n = ofTable n || ofBlock n
 
 abbrev pub published : ℕ → Bool
-published n = refuses n || leb n 5
+published n = refuses n || leb n 5 || eqb n 24
 
 -- a run's answer o to a block b and a log buffer l
 pub record RunAnswers (b l : List ℕ) (o : Outcome) : Type 0 where
@@ -68,7 +68,16 @@ pub record NextSpawns (t : List ℕ) (c : State) : Type 0 where
   pub acts : c .active ≡ some task
   pub is-spawn : getD t (8 * task .place) 0 ≡ 6
 
--- "next step writes a record" (so a step is next: neither 0 nor 2, and no limit)
+-- request 2.2 of document 02: "the expression of the next set, test or spawn has no value": a task is active, the record at its place is of the kinds 3 to 6, and the
+-- expression behind that record has no value
+pub record NextLacks (t : List ℕ) (c : State) : Type 0 where
+  pub task : Task ℕ
+  pub acts : c .active ≡ some task
+  pub from-set : 3 ≤ getD t (8 * task .place) 0
+  pub to-spawn : getD t (8 * task .place) 0 ≤ 6
+  pub lacks : value (envOf (c .store) task) (exprOf (inner (drop (8 * task .place) t))) ≡ none
+
+-- "next step writes a record" (so a step is next: neither 0 nor 2, and neither 24 nor a limit)
 pub record NextWrites (r : Recipe) (c : State) : Type 0 where
   pub event : Event
   pub after : State
@@ -80,15 +89,19 @@ pub record Says (t : List ℕ) (budget : ℕ) (l : List ℕ) (o : Outcome) (c : 
   pub stuck : (o .number ≡ 2) ↔ Stuck (recipes (recipeOf t)) c
   -- "1 paused: steps equal the budget"
   pub paused : (o .number ≡ 1) ↔ ((o .steps ≡ budget) × (¬ Finished c) × (¬ Stuck (recipes (recipeOf t)) c))
+  -- request 2.2: "24, a stop like 3 and no refusal, when the expression of the next set, test or spawn has no value, tried after 1 and before 3"
+  pub novalue : (o .number ≡ 24) ↔ ((o .steps < budget) × NextLacks t c)
   -- "3 tasks: next is a spawn and 32 tasks live"
-  pub tasks : (o .number ≡ 3) ↔ ((o .steps < budget) × NextSpawns t c × (length (live c) ≡ 32))
+  pub tasks : (o .number ≡ 3) ↔ ((o .steps < budget) × NextSpawns t c × (¬ NextLacks t c) × (length (live c) ≡ 32))
   -- "4 spent: next is a spawn and 65,535 is issued"
-  pub spent : (o .number ≡ 4) ↔ ((o .steps < budget) × NextSpawns t c × (length (live c) < 32) × (c .store .issued ≡ 65535))
+  pub spent : (o .number ≡ 4) ↔ ((o .steps < budget) × NextSpawns t c × (¬ NextLacks t c) × (length (live c) < 32) × (c .store .issued ≡ 65535))
   -- "5 logfull: next step writes a record and under 8 bytes are free"
   pub logfull : (o .number ≡ 5) ↔ ((o .steps < budget) × NextWrites (recipeOf t) c × (length l < 8 * o .records + 8))
-  -- the steps are within the budget, and no record is named
+  -- the steps are within the budget
   pub in-budget : o .steps ≤ budget
-  pub no-place : o .place ≡ 0
+  -- "place (the faulty record; 0 where none is named)"; request 2.2: "its place the statement's record"
+  pub names-record : o .number ≡ 24 → (x : NextLacks t c) → o .place ≡ x .task .place
+  pub no-place : ¬ (o .number ≡ 24) → o .place ≡ 0
 
 -- a run's answer o to a table t, a block b, a budget and a log buffer l
 pub record RunSays (t b : List ℕ) (budget : ℕ) (l : List ℕ) (o : Outcome) : Type 0 where

@@ -10,7 +10,7 @@ use lib.Dec.{eqb}
 use lib.IntN.{ℤ}
 use lib.ListN.{length}
 use Rattle.rules.specs.State.{live}
-use Rattle.rules.specs.Scheduler.{Rules, on, back, over, Act, halts, does, count, Config, readiness, canGo, Next, finish, jam, bar, goes, tryOf, next, Ending, finished, paused, stuck, logfull, limit, Run, end, step, ending, last, stepsOf, log, logOf}
+use Rattle.rules.specs.Scheduler.{Rules, on, back, over, Act, halts, does, count, Config, readiness, canGo, Next, finish, jam, bar, goes, tryOf, next, Ending, finished, paused, stuck, logfull, halted, tasks, spent, novalue, Run, end, step, ending, last, stepsOf, log, logOf}
 use Rattle.rules.specs.Moments.{Call, refused, call, budgets, Does, made, ends, Moment, trace, answers, finally}
 
 abbrev pub Every : {A : Type 0} → (A → Type 0) → List A → Type 0
@@ -154,20 +154,23 @@ module _ (R : Rules) where
   longest d [] = d
   longest d (m ∷ ms) = longestOf d (m .at .active) (m .what) (λ d′. longest d′ ms)
 
-  -- "no limit stops the run if none of these calls ends in 3, 4 or 5 before the turn"
-  abbrev pub LimitE : Ending → Type 0
-  LimitE finished = ⊥
-  LimitE paused = ⊥
-  LimitE stuck = ⊥
-  LimitE logfull = Unit {0}
-  LimitE (limit k) = Unit {0}
+  -- "no limit stops the run if none of these calls ends in 3, 4 or 5 before the turn"; request 2.2 of document 02: "The waiting bound then holds for runs
+  -- that no zero divisor stops": the endings that the bound excludes
+  abbrev pub Excluded : Ending → Type 0
+  Excluded finished = ⊥
+  Excluded paused = ⊥
+  Excluded stuck = ⊥
+  Excluded logfull = Unit {0}
+  Excluded (halted tasks) = Unit {0}
+  Excluded (halted spent) = Unit {0}
+  Excluded (halted novalue) = Unit {0}
 
   abbrev pub Free : Does R → Type 0
   Free (made x) = Unit {0}
-  Free (ends e) = ¬ LimitE e
+  Free (ends e) = ¬ Excluded e
 
   -- What the bound asks of the moments until the turn of t: it can go on at each with none active, no burst takes more than b steps, no limit
-  -- stops a call.
+  -- and no zero divisor stops a call.
   pub record Waiting (t : R .Task) (b : ℕ) (ms : List (Moment R)) : Type 0 where
     pub can-go : Every (λ x. x .at .active ≡ none → canGo R (x .at) t ≡ true) (until (R .num t) ms)
     pub bursts : longest 0 (until (R .num t) ms) ≤ b
@@ -244,6 +247,7 @@ module _ (R : Rules) where
         → m .at .queue ≡ ahead ++ (t ∷ behind) → m ∷ rest ≡ mid ++ (y ∷ post) → NoTry (R .num t) mid → Tries (R .num t) y → tries mid ≡ ahead
     -- "If, at any moment with no task active, a task has k tasks ahead of it, can go on at every such moment until its turn, no burst until then takes
     -- more than b steps and no limit of tasks, numbers or log stops the run, it is taken up within k × (b + 1) + 1 steps, once the budgets reach that sum."
+    -- Request 2.2: "The waiting bound then holds for runs that no zero divisor stops."
     pub bound : (pre post : List (Moment R)) (m : Moment R) (ahead behind : List (R .Task)) (t : R .Task) (b : ℕ) → trace R c cs ≡ pre ++ (m ∷ post)
         → m .at .active ≡ none → m .at .queue ≡ ahead ++ (t ∷ behind) → Waiting t b (m ∷ post)
         → length ahead * (b + 1) + 1 ≤ budgets (m .calls)

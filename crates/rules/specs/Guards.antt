@@ -7,7 +7,7 @@ use mathlib.Core.Bool.{true, false}
 use mathlib.Core.Option.{none, some}
 use mathlib.Core.List.{List, [], _∷_, _++_}
 use lib.IntN.{pos}
-use Rattle.rules.specs.Values.{truth}
+use Rattle.rules.specs.Values.{isTrue}
 use Rattle.rules.specs.Recipe.{Expr, Recipe, read, value}
 use Rattle.rules.specs.Table.{kind, kindRow}
 use Rattle.rules.specs.Places.{awaits, guards, at}
@@ -25,7 +25,7 @@ pub data Held (r : Recipe) (c : State) (t : Task ℕ) : Type 0 where
       → Held r c t
   untrue : (e : Expr) (k : ℕ)
       → at r (t .place) ≡ guards e k
-      → truth (value (envOf (c .store) t) e) ≡ false
+      → isTrue (value (envOf (c .store) t) e) ≡ false
       → Held r c t
 
 pub record AllHeld (r : Recipe) (c : State) : Type 0 where
@@ -43,10 +43,10 @@ pub record Guards (r : Recipe) (c : State) : Type 0 where
   -- "When tried it passes only if the expression is true then", worked out with the parameter of the task that waits; "and otherwise it is turned", where
   -- some task can go on
   pub passes : (t : Task ℕ) (q : List (Task ℕ)) (e : Expr) (k : ℕ) → c .active ≡ none → c .queue ≡ t ∷ q → at r (t .place) ≡ guards e k
-      → truth (value (envOf (c .store) t) e) ≡ true
+      → isTrue (value (envOf (c .store) t) e) ≡ true
       → next (recipes r) c ≡ goes (some (taken (t .number))) (record { store = c .store; active = some (goTo t k); queue = q })
   pub turns : (t : Task ℕ) (q : List (Task ℕ)) (e : Expr) (k : ℕ) → c .active ≡ none → c .queue ≡ t ∷ q → at r (t .place) ≡ guards e k
-      → truth (value (envOf (c .store) t) e) ≡ false → anyGo (recipes r) c (c .queue) ≡ true
+      → isTrue (value (envOf (c .store) t) e) ≡ false → anyGo (recipes r) c (c .queue) ≡ true
       → next (recipes r) c ≡ goes (some (turned (t .number) (pos 0))) (record { store = c .store; active = none; queue = q ++ (t ∷ []) })
   -- ""Stuck" is then said when every queued task waits for a number that is not done or for an untrue guard"
   pub stuck-when : Stuck (recipes r) c ↔ AllHeld r c

@@ -19,5 +19,6 @@ pub mod Moments
 pub mod Fairness
 pub mod Demand
 pub mod Guards
+pub mod NoValue
 pub mod Witness
 pub mod Rest

@@ -6,9 +6,9 @@ use Prim.Native.Nat.{ℕ, zero, suc, _+_, _*_, _/_, _%_}
 use Prim.Native.Char.{code}
 use Prim.Native.String as S
 use Prim.Native.String.{String}
-use mathlib.Core.Bool.{cond}
+use mathlib.Core.Bool.{Bool, _||_, cond}
 use mathlib.Core.List.{List, [], _∷_, _++_}
-use lib.Dec.{eqb, ltb}
+use lib.Dec.{eqb, leb, ltb}
 use lib.IntN.{ℤ, pos, negsuc}
 use lib.ListN.{getD, replicate}
 use Rattle.rules.specs.Fields.{half, word, signed}
@@ -46,7 +46,7 @@ kindWord kind =
     (cond (eqb kind 6) (bytes "ended")
     (bytes "valve"))))))
 
--- "0 finished", "1 paused", "2 stuck", "3 tasks", "4 spent", "5 logfull": a run ends in no other way
+-- "0 finished", "1 paused", "2 stuck", "3 tasks", "4 spent", "5 logfull"; request 2.2 of document 02: of 24 "its word "novalue"". A run ends in no other way.
 unfoldable pub endingWord : ℕ → List ℕ
 endingWord number =
     cond (eqb number 0) (bytes "finished")
@@ -54,7 +54,8 @@ endingWord number =
     (cond (eqb number 2) (bytes "stuck")
     (cond (eqb number 3) (bytes "tasks")
     (cond (eqb number 4) (bytes "spent")
-    (bytes "logfull")))))
+    (cond (eqb number 5) (bytes "logfull")
+    (bytes "novalue"))))))
 
 -- a number, a value after one space
 abbrev pub spaced : ℕ → List ℕ
@@ -83,11 +84,14 @@ endingLine n s = endingWord n ++ spaced s ++ bytes "\n"
 unfoldable pub refusedLine : (number place : ℕ) → List ℕ
 refusedLine n i = bytes "refused" ++ spaced n ++ spaced i ++ bytes "\n"
 
--- a run's text: 0 to 5 are endings, the other numbers refuse
+-- a run's text: 0 to 5 and 24 are endings, the other numbers refuse
+abbrev pub ends : (number : ℕ) → Bool
+ends n = leb n 5 || eqb n 24
+
 unfoldable pub runText : Outcome → List ℕ
 runText o =
-    cond (ltb 5 (o .number)) (refusedLine (o .number) (o .place))
-    (lines (o .log) (o .records) ++ endingLine (o .number) (o .steps))
+    cond (ends (o .number)) (lines (o .log) (o .records) ++ endingLine (o .number) (o .steps))
+    (refusedLine (o .number) (o .place))
 
 -- "runs it with budget 10,000": the text for a table, from a block to start on and a log buffer
 unfoldable pub startText : (table log : List ℕ) → Started → List ℕ

@@ -4,12 +4,13 @@
 use Prim.Native.Nat.{ℕ, _+_, _≤_, _<_, max}
 use mathlib.Core.Path.{_≡_}
 use mathlib.Core.Bool.{true, cond}
+use mathlib.Core.Option.{Option, some}
 use mathlib.Core.List.{List, [], _∷_, _++_}
 use lib.Dec.{eqb}
 use lib.IntN.{ℤ, pos}
 use lib.ListN.{length, getD, set}
 use Rattle.rules.specs.Fields.{bits, bytes2, bytes4}
-use Rattle.rules.specs.Values.{inRange, apply1, apply2}
+use Rattle.rules.specs.Values.{inRange, apply1, apply2, ofBoth, ofOne}
 
 infixr 50 _▸_
 -- kinds 9 to 12
@@ -170,9 +171,9 @@ write v name z =
     (record { variables = v .variables; parameter = z })
     (record { variables = set (v .variables) name z; parameter = v .parameter })
 
--- the value of an expression
-unfoldable pub value : Env → Expr → ℤ
-value v (constant z) = z
-value v (variable n) = read v n
-value v (two o a b) = apply2 o (value v a) (value v b)
-value v (one o a) = apply1 o (value v a)
+-- request 2.2 of document 02: "Working out an expression now gives a value or "no value""
+unfoldable pub value : Env → Expr → Option ℤ
+value v (constant z) = some z
+value v (variable n) = some (read v n)
+value v (two o a b) = ofBoth (apply2 o) (value v a) (value v b)
+value v (one o a) = ofOne (apply1 o) (value v a)

@@ -2,15 +2,16 @@
 -- Assumes nothing.
 use Prim.Native.Nat.{ℕ, _*_, _/_}
 use mathlib.Core.Bool.{cond}
+use mathlib.Core.Option.{Option, none, some}
 use mathlib.Core.List.{List, _++_}
 use lib.Dec.{eqb}
 use lib.ListN.{length, drop}
 use Rattle.rules.specs.Table.{Verdict, fine, fault, _else_, check, recipeOf}
 use Rattle.rules.specs.Recipe.{Recipe}
 use Rattle.rules.specs.Places.{isPlace}
-use Rattle.rules.specs.State.{State, fresh, checkBlock, readBlock, writeBlock}
+use Rattle.rules.specs.State.{Task, State, fresh, checkBlock, readBlock, writeBlock}
 use Rattle.rules.specs.Log.{logBytes}
-use Rattle.rules.specs.Scheduler.{numberOf, Run, run, ending, last, stepsOf, log}
+use Rattle.rules.specs.Scheduler.{tasks, spent, novalue, Ending, finished, paused, stuck, logfull, halted, numberOf, Run, run, ending, last, stepsOf, log}
 use Rattle.rules.specs.Steps.{recipes}
 
 -- "Start gives a number and a place by the same rules: 0 and 0 when accepted, else 11–17 or 21 with its place; it ignores the block's old content."
@@ -41,13 +42,28 @@ pub record Outcome : Type 0 where
 abbrev pub refusal : (number place : ℕ) → (block log : List ℕ) → Outcome
 refusal n i b l = record { number = n; steps = 0; records = 0; place = i; block = b; log = l }
 
--- 0 to 5: "as after the steps counted"; "Each call writes from the log buffer's first byte"; "Bytes past the last record keep their content."
+-- where the active task stands (a call that ends in 24 leaves one: `Answers.Says→novalue`)
+abbrev pub standsAt : Option (Task ℕ) → ℕ
+standsAt none = 0
+standsAt (some t) = t .place
+
+-- "0 where none is named"; request 2.2 of document 02: of 24 "its place the statement's record", at which the active task stands
+abbrev pub placeOf : Ending → State → ℕ
+placeOf finished c = 0
+placeOf paused c = 0
+placeOf stuck c = 0
+placeOf logfull c = 0
+placeOf (halted tasks) c = 0
+placeOf (halted spent) c = 0
+placeOf (halted novalue) c = standsAt (c .active)
+
+-- 0 to 5, and 24, "a stop like 3": "as after the steps counted"; "Each call writes from the log buffer's first byte"; "Bytes past the last record keep their content."
 unfoldable pub outcome : (r : Recipe) → Run (recipes r) → List ℕ → Outcome
 outcome r u l = record {
   number = numberOf (ending (recipes r) u);
   steps = stepsOf (recipes r) u;
   records = length (log (recipes r) u);
-  place = 0;
+  place = placeOf (ending (recipes r) u) (last (recipes r) u);
   block = writeBlock (last (recipes r) u);
   log = logBytes (log (recipes r) u) ++ drop (8 * length (log (recipes r) u)) l;
 }

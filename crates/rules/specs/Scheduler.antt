@@ -29,14 +29,14 @@ pub data Stay (Task : Type 0) : Type 0 where
   back : Task → Stay Task
   over : Stay Task
 
--- the limits that stop a run: "3 tasks", "4 spent"
-pub data Limit : Type 0 where
-  tasks spent : Limit
+-- what halts a run where the active task would step: "3 tasks", "4 spent"; request 2.2 of document 02: "24, a stop like 3", "its word "novalue""
+pub data Halt : Type 0 where
+  tasks spent novalue : Halt
 
--- One step of the active task: a limit stops it, or it has a new store, new tasks for the back of the queue, what becomes of the task itself,
+-- One step of the active task: it is halted, or it has a new store, new tasks for the back of the queue, what becomes of the task itself,
 -- and the step's log event, if it writes one.
 pub data Act (Store Task Event : Type 0) : Type 0 where
-  halts : Limit → Act Store Task Event
+  halts : Halt → Act Store Task Event
   does : Store → List Task → Stay Task → Option Event → Act Store Task Event
 
 -- A task language.
@@ -85,11 +85,11 @@ module _ (R : Rules) where
   anyGo c [] = false
   anyGo c (t ∷ ts) = canGo c t || anyGo c ts
 
-  -- What comes next, budget and log apart: nothing is left, none is ready, a limit bars the step, or the step with its event.
+  -- What comes next, budget and log apart: nothing is left, none is ready, the step is barred, or the step with its event.
   pub data Next : Type 0 where
     finish : Next
     jam : Next
-    bar : Limit → Next
+    bar : Halt → Next
     goes : Option Event → Config → Next
 
   -- a turn of the task t to the back, with the tasks q queued besides; its record carries z
@@ -140,15 +140,16 @@ logOf (some x) = x ∷ []
 -- How a run call ends, and the number that it returns.
 pub data Ending : Type 0 where
   finished paused stuck logfull : Ending
-  limit : Limit → Ending
+  halted : Halt → Ending
 
 unfoldable pub numberOf : Ending → ℕ
 numberOf finished = 0
 numberOf paused = 1
 numberOf stuck = 2
-numberOf (limit tasks) = 3
-numberOf (limit spent) = 4
+numberOf (halted tasks) = 3
+numberOf (halted spent) = 4
 numberOf logfull = 5
+numberOf (halted novalue) = 24
 
 module _ (R : Rules) where
   open Rules R using (Event)
@@ -157,13 +158,13 @@ module _ (R : Rules) where
     stops : Ending → What
     makes : Option Event → Config R → What
 
-  -- "Before each step 0, 2, 1, 3, 4, 5 are tried in this order."
+  -- "Before each step 0, 2, 1, 3, 4, 5 are tried in this order." Request 2.2: 24 is "tried after 1 and before 3".
   -- (With a budget of so many steps and room for so many records left.)
   abbrev pub test : (budget room : ℕ) → Next R → What
   test b r finish = stops finished
   test b r jam = stops stuck
   test zero r (bar k) = stops paused
-  test (suc b) r (bar k) = stops (limit k)
+  test (suc b) r (bar k) = stops (halted k)
   test zero r (goes x c) = stops paused
   test (suc b) r (goes none c) = makes none c
   test (suc b) zero (goes (some x) c) = stops logfull

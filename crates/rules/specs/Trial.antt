@@ -46,6 +46,11 @@ abbrev pub leaves : List ℕ → Row → Row
 leaves b x =
     record { table = x .table; block = x .block; budget = x .budget; room = x .room; number = x .number; steps = x .steps; place = x .place; log = x .log; left = some b }
 
+-- naming this record
+abbrev pub naming : ℕ → Row → Row
+naming i x =
+    record { table = x .table; block = x .block; budget = x .budget; room = x .room; number = x .number; steps = x .steps; place = i; log = x .log; left = x .left }
+
 abbrev pub refused : List ℕ → ℕ → ℕ → Row
 refused t n i = record { table = t; block = none; budget = 1000; room = 800; number = n; steps = 0; place = i; log = some []; left = none }
 
@@ -96,10 +101,14 @@ abbrev pub minus : ℕ → ℤ
 minus zero = pos 0
 minus (suc n) = negsuc n
 
+-- the expression a operator b of two constants
+abbrev pub operation : (operator : ℕ) → ℤ → ℤ → List ℕ
+operation o a b = row 11 o 2 (pos 0) ++ row 9 0 0 a ++ row 9 0 0 b
+
 -- valve 0 is set to each result, and the log shows it: for two operands and for one
 abbrev pub setsTwo : ℕ → List Case → List ℕ
 setsTwo o [] = []
-setsTwo o (c ∷ cs) = row 3 0 3 (pos 0) ++ row 11 o 2 (pos 0) ++ row 9 0 0 (c .left) ++ row 9 0 0 (c .right) ++ setsTwo o cs
+setsTwo o (c ∷ cs) = row 3 0 3 (pos 0) ++ operation o (c .left) (c .right) ++ setsTwo o cs
 
 abbrev pub setsOne : ℕ → List Case → List ℕ
 setsOne o [] = []
@@ -125,7 +134,9 @@ starred =
     ∷ within 0 800 rowE 1 0
     ∷ run rowF 3 63 none
     ∷ two 0 (is highest (pos 1) highest ∷ [])
-    ∷ two 3 (is (minus 7) (pos 2) (minus 3) ∷ is lowest (minus 1) highest ∷ is (pos 5) (pos 0) (pos 0) ∷ [])
+    ∷ two 3 (is (minus 7) (pos 2) (minus 3) ∷ is lowest (minus 1) highest ∷ [])
+    -- request 2.2 of document 02: "a quotient by 0 has none (trial row 5 by 0 too)"
+    ∷ naming 1 (run (row 1 0 4 (pos 0) ++ row 3 0 3 (pos 0) ++ operation 3 (pos 5) (pos 0)) 24 0 (some []))
     ∷ []
 
 -- ---- rows beside these
@@ -136,7 +147,7 @@ operators =
     two 0 (is (pos 7) (pos 2) (pos 9) ∷ is (minus 7) (pos 2) (minus 5) ∷ is (minus 7) (minus 2) (minus 9) ∷ is lowest (minus 1) lowest ∷ is highest lowest (minus 1) ∷ [])
     ∷ two 1 (is (pos 7) (pos 2) (pos 5) ∷ is (pos 2) (pos 7) (minus 5) ∷ is (minus 7) (minus 2) (minus 5) ∷ is lowest (pos 1) lowest ∷ is highest (minus 1) highest ∷ is (pos 0) lowest highest ∷ [])
     ∷ two 2 (is (pos 7) (pos 2) (pos 14) ∷ is (minus 7) (pos 2) (minus 14) ∷ is (minus 7) (minus 2) (pos 14) ∷ is (pos 65536) (pos 65536) highest ∷ is (pos 65536) (minus 65536) lowest ∷ is lowest (minus 1) highest ∷ is (pos 0) (minus 7) (pos 0) ∷ [])
-    ∷ two 3 (is (pos 7) (minus 2) (minus 3) ∷ is (minus 7) (minus 2) (pos 3) ∷ is (pos 7) (pos 2) (pos 3) ∷ is (minus 1) (pos 2) (pos 0) ∷ is (minus 5) (pos 0) (pos 0) ∷ is lowest (pos 1) lowest ∷ [])
+    ∷ two 3 (is (pos 7) (minus 2) (minus 3) ∷ is (minus 7) (minus 2) (pos 3) ∷ is (pos 7) (pos 2) (pos 3) ∷ is (minus 1) (pos 2) (pos 0) ∷ is (pos 0) (minus 5) (pos 0) ∷ is lowest (pos 1) lowest ∷ [])
     ∷ two 4 (is (pos 1) (pos 2) (pos 1) ∷ is (pos 2) (pos 1) (pos 0) ∷ is (pos 2) (pos 2) (pos 0) ∷ is (minus 2) (minus 1) (pos 1) ∷ is (minus 1) (minus 2) (pos 0) ∷ is (minus 1) (pos 0) (pos 1) ∷ is (pos 0) (minus 1) (pos 0) ∷ is lowest highest (pos 1) ∷ is highest lowest (pos 0) ∷ [])
     ∷ two 5 (is (pos 2) (pos 2) (pos 1) ∷ is (pos 2) (pos 3) (pos 0) ∷ is (minus 2) (minus 2) (pos 1) ∷ is (minus 2) (minus 3) (pos 0) ∷ is (minus 1) (pos 1) (pos 0) ∷ is (pos 0) (minus 1) (pos 0) ∷ is lowest lowest (pos 1) ∷ is lowest highest (pos 0) ∷ [])
     ∷ two 6 (is (pos 5) (pos 7) (pos 1) ∷ is (pos 5) (pos 0) (pos 0) ∷ is (pos 0) (pos 5) (pos 0) ∷ is (pos 0) (pos 0) (pos 0) ∷ is (minus 1) (minus 2) (pos 1) ∷ is (minus 1) (pos 0) (pos 0) ∷ [])
@@ -307,6 +318,59 @@ guarded =
     ∷ within 5 800 (procedureOf (row 5 0 3 (pos 0) ++ one9 ++ guardOn one9)) 1 5
     ∷ []
 
+-- ---- no value
+
+-- an expression without a value; valve 0 is set to this expression
+abbrev pub none9 : List ℕ
+none9 = operation 3 (pos 1) (pos 0)
+
+abbrev pub setTo : List ℕ → List ℕ
+setTo l = procedureOf (row 3 0 (length l / 8) (pos 0) ++ l)
+
+-- the set is not done for any of these expressions
+abbrev pub noneOf : List (List ℕ) → List Row
+noneOf [] = []
+noneOf (l ∷ ls) = naming 1 (run (setTo l) 24 0 (some [])) ∷ noneOf ls
+
+-- each operator of two operands up to this one, with the first and with the second operand without a value
+abbrev pub oneWithout : ℕ → List (List ℕ)
+oneWithout zero = []
+oneWithout (suc o) = (row 11 o 4 (pos 0) ++ none9 ++ one9) ∷ (row 11 o 4 (pos 0) ++ one9 ++ none9) ∷ oneWithout o
+
+-- valve 0 is set to 6 by variable 9
+abbrev pub share : List ℕ
+share = row 3 0 3 (pos 0) ++ row 11 3 2 (pos 0) ++ row 9 0 0 (pos 6) ++ row 10 9 0 (pos 0)
+
+-- a skip and a statement of this kind and name, whose expression has no value
+abbrev pub atSecond : (kind name : ℕ) → List ℕ
+atSecond k n = procedureOf (row 2 0 0 (pos 0) ++ row k n 3 (pos 0) ++ none9)
+
+-- main spawns procedure 1 and waits at a guard of 6 by variable 9, which is set after a turn
+abbrev pub guardShare : List ℕ
+guardShare = procedureOf (spawns8 ++ guardOn (row 11 3 2 (pos 0) ++ row 9 0 0 (pos 6) ++ row 10 9 0 (pos 0))) ++ procedureOf (row 7 0 0 (pos 0) ++ set9)
+
+abbrev pub missing : List Row
+missing =
+    -- "both operands of "and" and "or" are always worked out": 0 and 1/0, 1 or 1/0
+    noneOf ((row 11 6 4 (pos 0) ++ zero9 ++ none9) ∷ (row 11 7 4 (pos 0) ++ one9 ++ none9) ∷ [])
+    ++ noneOf (oneWithout 8)
+    ++ noneOf ((row 12 0 3 (pos 0) ++ none9) ∷ (row 12 1 3 (pos 0) ++ none9) ∷ operation 3 (minus 5) (pos 0) ∷ operation 3 (pos 0) (pos 0) ∷ [])
+    -- the steps before are counted and logged; each statement with an expression, a set of the parameter too
+    ++ naming 9 (run (procedureOf (set9 ++ share ++ row 3 9 1 (pos 0) ++ zero9 ++ share)) 24 3 (some (row 7 0 1 (pos 6))))
+    ∷ naming 2 (run (atSecond 3 64) 24 1 (some []))
+    ∷ naming 2 (run (atSecond 4 0) 24 1 (some []))
+    ∷ naming 2 (run (atSecond 5 0) 24 1 (some []))
+    ∷ naming 2 (run (atSecond 6 8) 24 1 (some []))
+    -- "A guard without a value counts as untrue": stuck; turned, and passed when it has one
+    ∷ run (procedureOf (guardOn none9)) 2 1 (some (row 4 0 1 (pos 0)))
+    ∷ run guardShare 0 10
+    (some (row 1 0 1 (pos 2) ++ row 4 0 1 (pos 0) ++ row 2 0 2 (pos 0) ++ row 3 0 2 (pos 0) ++ row 5 0 1 (pos 0) ++ row 2 0 2 (pos 0) ++ row 6 0 2 (pos 0) ++ row 2 0 1 (pos 0)
+    ++ row 6 0 1 (pos 0)))
+    -- "tried after 1" and before 5
+    ∷ within 0 0 (setTo none9) 1 0
+    ∷ naming 1 (within 1 0 (setTo none9) 24 0)
+    ∷ []
+
 -- ---- tables at fault
 
 -- so many negations, one in the other, around what follows
@@ -359,10 +423,6 @@ faults =
     ∷ refused (row 1 0 4 (pos 0) ++ row 6 8 1 (pos 0) ++ row 9 0 0 (pos 0) ++ row 6 8 1 (pos 2) ++ row 9 0 0 (pos 0)) 17 3
     ∷ refused (row 1 0 4 (pos 0) ++ row 6 8 1 (pos 1) ++ row 9 0 0 (pos 0) ++ row 3 65 1 (pos 0) ++ row 9 0 0 (pos 0)) 14 3
     ∷ []
-
--- a set of valve 0 to this expression, whose first record has index 2
-abbrev pub setTo : List ℕ → List ℕ
-setTo l = procedureOf (row 3 0 (length l / 8) (pos 0) ++ l)
 
 -- each of the tables is refused with this number and place
 abbrev pub each : ℕ → ℕ → List (List ℕ) → List Row
@@ -442,6 +502,10 @@ crowd (suc n) = crowd n ++ task (suc n) 1 (pos 0)
 abbrev pub spawnOne : List ℕ
 spawnOne = row 1 0 2 (pos 0) ++ row 6 8 1 (pos 1) ++ row 9 0 0 (pos 0) ++ row 1 0 0 (pos 0)
 
+-- the same with an argument that has no value
+abbrev pub spawnNone : List ℕ
+spawnNone = procedureOf (row 6 8 3 (pos 0) ++ none9)
+
 abbrev pub blocks : List Row
 blocks =
     -- 21 and 22, the earliest state record: its head; a number that is 0, not issued or had by an earlier record; a place that is none; an unused record
@@ -492,6 +556,10 @@ blocks =
     ∷ from (blockOf 65535 32 1 (crowd 32)) (within 1 8 spawnOne 3 0)
     ∷ from (blockOf 65535 32 1 (crowd 32)) (within 0 8 spawnOne 1 0)
     ∷ from (blockOf 65535 1 1 (crowd 1)) (within 1 0 spawnOne 4 0)
+    -- a spawn without a value: 24 is tried before 3 and 4, behind 1, and leaves the block as it is
+    ∷ from (blockOf 32 32 1 (crowd 32)) (leaves (blockOf 32 32 1 (crowd 32)) (naming 1 (within 1 8 spawnNone 24 0)))
+    ∷ from (blockOf 65535 1 1 (crowd 1)) (naming 1 (within 1 8 spawnNone 24 0))
+    ∷ from (blockOf 65535 32 1 (crowd 32)) (within 0 8 spawnNone 1 0)
     -- a finished and a stuck state without budget; room for one record, and for two
     ∷ from (blockOf 1 0 0 []) (within 0 0 rowE 0 0)
     ∷ from (blockOf 1 1 0 (crowd 1)) (within 0 0 rowC 2 0)
@@ -505,7 +573,7 @@ blocks =
     ∷ []
 
 abbrev pub rows : List Row
-rows = starred ++ operators ++ readings ++ guarded ++ faults ++ columns ++ blocks
+rows = starred ++ operators ++ readings ++ guarded ++ missing ++ faults ++ columns ++ blocks
 
 -- ---- start
 
@@ -564,12 +632,12 @@ allStart (x ∷ xs) = startPasses x (startOn (x .table) (x .block)) && allStart 
 
 -- ---- the published list
 
--- "Returned": the numbers of the table, and those of them at which state and log are "unchanged"
+-- "Returned": the numbers of the table, and those of them at which state and log are "unchanged"; request 2.2: 24 is "no refusal"
 abbrev pub refusals : List ℕ
 refusals = 11 ∷ 12 ∷ 13 ∷ 14 ∷ 15 ∷ 16 ∷ 17 ∷ 21 ∷ 22 ∷ 23 ∷ []
 
 abbrev pub returned : List ℕ
-returned = 0 ∷ 1 ∷ 2 ∷ 3 ∷ 4 ∷ 5 ∷ refusals
+returned = 0 ∷ 1 ∷ 2 ∷ 3 ∷ 4 ∷ 5 ∷ refusals ++ 24 ∷ []
 
 -- the numbers below n of which this holds
 abbrev pub those : (ℕ → Bool) → ℕ → List ℕ

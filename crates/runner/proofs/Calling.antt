@@ -3,7 +3,7 @@
 use mathlib.Core.Logic.{_⊎_}
 use Prim.Native.Nat.{ℕ, _+_, _*_, _/_, _≤_}
 use mathlib.Core.Path.{_≡_, refl, sym, ap, _∙_, subst, subst⁻¹, subst₂}
-use mathlib.Core.Bool.{true}
+use mathlib.Core.Bool.{Bool, true, false}
 use mathlib.Core.Option.{none, some, Option·map, Option·some-injective}
 use mathlib.Core.List.{List, [], _∷_, _++_, map}
 use native.Mathlib.Omega.{arith}
@@ -12,19 +12,22 @@ use lib.ListN.{length, drop}
 use borrow.Author.Tests.{eqb-true, ne-eqb}
 use Rattle.rules.specs.Table.{fine, fault, _else_, check, recipeOf}
 use Rattle.rules.specs.Places.{isPlace}
+use Rattle.rules.specs.State as R
 use Rattle.rules.specs.State.{fresh, headFits, recordFits, checkRecords, checkBlock, readBlock, writeBlock}
 use Rattle.rules.specs.Log.{logBytes}
-use Rattle.rules.specs.Scheduler.{Rules, numberOf, Run, end, step, run, stepsOf, log}
+use Rattle.rules.specs.Scheduler.{Rules, novalue, Ending, halted, numberOf, Run, end, step, run, ending, last, stepsOf, log}
 use Rattle.rules.specs.Steps.{recipes}
-use Rattle.rules.specs.Run.{Outcome, startOn, roomOf, refusal, outcome, openOn, runOn}
+use Rattle.rules.specs.Run.{Outcome, startOn, standsAt, placeOf, roomOf, refusal, outcome, openOn, runOn}
 use Rattle.rules.specs.Demand.{Bytes, Chained, Continues}
 use Rattle.rules.proofs.Verdicts.{else-fine, cond-fine}
 use Rattle.rules.specs.Answers.{RunAnswers, RunSays, StartAnswers, StartSays}
 use Rattle.rules.proofs.Answers.{run-answers, start-answers}
 use Rattle.rules.proofs.Says.{run-says, start-says}
 use Rattle.rules.proofs.Demand.{chain-meets, continued}
+use Rattle.rules.proofs.Scheduling.Endings.{by-number}
+use Rattle.rules.proofs.NoValue.{bars}
 use Rattle.state.specs.declared.State.{State}
-use Rattle.state.specs.View.{view}
+use Rattle.state.specs.View.{taskOf, activeOf, view}
 use Rattle.runner.specs.declared.Answer.{Answer}
 use Rattle.runner.specs.declared.Started.{Started}
 use Rattle.runner.specs.declared.drive.Ran.{Ran}
@@ -83,17 +86,32 @@ module _ {t : List ℕ} {s : State} {n : ℕ} {l l′ : List ℕ} {x : Ran} (d :
   pub records-fit : x .count .written / 8 ≤ x .count .steps
   records-fit = let b = d .ended .bytes in let k = d .ended .steps-are in omega (arith, log-steps (recipes (recipeOf t)) u)
 
-  pub answers : (number : ℕ) (block : List ℕ) → some number ≡ Option·map numberOf (endingOf (x .stop)) → block ≡ writeBlock (view (x .state))
-      → record { number = number; steps = x .count .steps; records = x .count .written / 8; place = 0; block = block; log = l′ }
+  -- where a missing value ends it, it has an active task
+  stands : ending (recipes (recipeOf t)) u ≡ halted novalue → standsAt (last (recipes (recipeOf t)) u .active) ≡ x .state .current .place
+  stands h =
+      let r = recipeOf t in
+      let c = last (recipes r) u in
+      let b = bars r (c .store) (c .active) (c .queue) novalue (by-number (recipes r) n (roomOf l) (view s) (halted novalue) .0 (ap numberOf h) .1) in
+      ap standsAt (b .acts) ∙ place-is (x .state .active) (b .task) (ap (λ (d : R.State). d .active) (sym (d .ended .leaves)) ∙ b .acts)
+    where
+      place-is : (on : Bool) (a : R.Task ℕ) → activeOf on (x .state .current) ≡ some a → a .place ≡ x .state .current .place
+      place-is true a e = let z : taskOf (x .state .current) ≡ a = cc in ap (λ (y : R.Task ℕ). y .place) (sym z)
+      place-is false a e = absurd (let z : _≡_ {A = ℕ} 0 1 = cc in omega arith)
+
+  pub answers : (number place : ℕ) (block : List ℕ) → some number ≡ Option·map numberOf (endingOf (x .stop))
+      → ((e : Ending) (c : R.State) → number ≡ numberOf e → (e ≡ halted novalue → standsAt (c .active) ≡ x .state .current .place) → place ≡ placeOf e c)
+      → block ≡ writeBlock (view (x .state))
+      → record { number = number; steps = x .count .steps; records = x .count .written / 8; place = place; block = block; log = l′ }
       ≡ outcome (recipeOf t) (run (recipes (recipeOf t)) n (roomOf l) (view s)) l
   unfolding outcome
-  answers number block f g =
+  answers number place block f p g =
       let e = d .ended in
       let number-is = Option·some-injective _ _ (f ∙ ap (Option·map numberOf) (d .stop-is)) ∙ ap numberOf (sym (e .ends-so)) in
       let many : x .count .written / 8 ≡ length (log (recipes (recipeOf t)) u) = omega (arith, e .bytes) in
+      let place-is = p (ending (recipes (recipeOf t)) u) (last (recipes (recipeOf t)) u) number-is stands in
       let block-is = g ∙ ap writeBlock (sym (e .leaves)) in
       let log-is = e .log-is ∙ ap (λ (k : ℕ). logBytes (log (recipes (recipeOf t)) u) ++ drop k l) (e .bytes) in
-      rw (number-is, sym (e .steps-are), many, block-is, log-is) refl
+      rw (number-is, sym (e .steps-are), many, place-is, block-is, log-is) refl
 
 -- ---- lists of calls of run
 

@@ -23,7 +23,7 @@ use Rattle.state.proofs.Views.{queue-length, none-active}
 use Rattle.links.specs.Linked.{Linked}
 use Rattle.ready.specs.Ready.{idle, Placed}
 use Rattle.moves.specs.declared.Move.{Move}
-use Rattle.moves.specs.declared.Move.the-variants.{Goes, Sets, Spawns, Gives, Waits, Ends}
+use Rattle.moves.specs.declared.Move.the-variants.{Goes, Sets, Spawns, Gives, Waits, Ends, Lacks}
 use Rattle.moves.proofs.Move.{the-type}
 use Rattle.count.specs.declared.Count.{Count}
 use Rattle.count.specs.declared.Stop.{Stop}
@@ -56,13 +56,14 @@ took-up : (r : Recipe) (s : State) (t : Task) → 0 < s .queued
 took-up r s t some past same = rw (front-rest (s .queue) (s .front) (s .queued) some, ← past, ← same) refl
 
 -- a move that leaves, but neither spawns nor ends, puts the task back
-pub puts-back : (m : Move) (c : R.State) → leaves m ≡ true → OneOf (0 ∷ 1 ∷ 3 ∷ 4 ∷ []) (tagOf the-type m) → putBack (c .active) c ≡ leftBy m c
+pub puts-back : (m : Move) (c : R.State) → leaves m ≡ true → OneOf (0 ∷ 1 ∷ 3 ∷ 4 ∷ 6 ∷ []) (tagOf the-type m) → putBack (c .active) c ≡ leftBy m c
 puts-back (Goes k) c h o = absurd (false≢true h)
 puts-back (Sets n z k) c h o = absurd (false≢true h)
-puts-back (Spawns n p z k) c h o = absurd (⊎-elim (λ e. omega (arith, e)) (⊎-elim (λ e. omega (arith, e)) (⊎-elim (λ e. omega (arith, e)) (λ e. omega (arith, e)))) o)
+puts-back (Spawns n p z k) c h o = absurd (⊎-elim (λ e. omega (arith, e)) (⊎-elim (λ e. omega (arith, e)) (⊎-elim (λ e. omega (arith, e)) (⊎-elim (λ e. omega (arith, e)) (λ e. omega (arith, e))))) o)
 puts-back (Gives k) c h o = refl
 puts-back (Waits z) c h o = refl
-puts-back Ends c h o = absurd (⊎-elim (λ e. omega (arith, e)) (⊎-elim (λ e. omega (arith, e)) (⊎-elim (λ e. omega (arith, e)) (λ e. omega (arith, e)))) o)
+puts-back Ends c h o = absurd (⊎-elim (λ e. omega (arith, e)) (⊎-elim (λ e. omega (arith, e)) (⊎-elim (λ e. omega (arith, e)) (⊎-elim (λ e. omega (arith, e)) (λ e. omega (arith, e))))) o)
+puts-back Lacks c h o = absurd (false≢true h)
 
 -- where none is turned
 pub no-turn : (n : ℕ) (s : State) → n ≡ 0 → view s ≡ turn n (view s)

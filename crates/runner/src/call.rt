@@ -10,10 +10,10 @@ ghost use mathlib.Core.Bool.{false};
 ghost use mathlib.Core.Option.{some, Option·map};
 ghost use Rattle.rules.specs.Table.{fine, _else_, check, recipeOf};
 ghost use Rattle.rules.specs.Places.{isPlace};
-ghost use Rattle.rules.specs.State.{checkBlock, readBlock};
-ghost use Rattle.rules.specs.Scheduler.{numberOf, run};
+ghost use Rattle.rules.specs.State.{State, checkBlock, readBlock};
+ghost use Rattle.rules.specs.Scheduler.{novalue, Ending, halted, numberOf, run};
 ghost use Rattle.rules.specs.Steps.{recipes};
-ghost use Rattle.rules.specs.Run.{roomOf, outcome};
+ghost use Rattle.rules.specs.Run.{standsAt, placeOf, roomOf, outcome};
 ghost use Rattle.table.specs.Check.{verdictOf};
 ghost use Rattle.count.specs.Along.{endingOf, isMore};
 ghost use Rattle.runner.specs.Calls.{outcomeOf};
@@ -42,7 +42,18 @@ fn number_of(stop: Stop) -> u32
         Stop::Tasks => 3,
         Stop::Spent => 4,
         Stop::Logfull => 5,
+        Stop::NoValue => 24,
     }
+}
+
+// The record that an ending of this number names: of 24 that of the statement without a value, at which the active task stands.
+fn place_of(number: u32, place: u16) -> u32
+    ensures { λ r. ⌜ ((e : Ending) (c : State) → number ≡ numberOf e → (e ≡ halted novalue → standsAt (c .active) ≡ place) → r ≡ placeOf e c) ⌝ }
+{
+    if number == 24 {
+        return place as u32;
+    }
+    0
 }
 
 // The steps of a call that is not refused.
@@ -56,13 +67,15 @@ pub fn carry_out(table: &[u8], state: &mut [u8], budget: u32, log: &mut [u8]) ->
     let first = block::read(state);
     let ran = drive(table, &next, &starts, first, budget, log);
     let last = ran.state;
+    let active = last.current;
     let stop = ran.stop;
     let count = ran.count;
     block::write(last, state);
+    let number = number_of(stop);
     Answer {
-        number: number_of(stop),
+        number: number,
         steps: count.steps,
         records: (count.written / 8) as u32,
-        place: 0,
+        place: place_of(number, active.place),
     }
 }

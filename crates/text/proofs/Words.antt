@@ -25,4 +25,5 @@ unfolding endingWord
 ending-length n =
     one-of (eqb n 0) _ _ (omega arith)
     (one-of (eqb n 1) _ _ (omega arith)
-    (one-of (eqb n 2) _ _ (omega arith) (one-of (eqb n 3) _ _ (omega arith) (one-of (eqb n 4) _ _ (omega arith) (omega arith)))))
+    (one-of (eqb n 2) _ _ (omega arith)
+    (one-of (eqb n 3) _ _ (omega arith) (one-of (eqb n 4) _ _ (omega arith) (one-of (eqb n 5) _ _ (omega arith) (omega arith))))))

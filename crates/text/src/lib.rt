@@ -46,7 +46,8 @@ pub fn put_ending(b: &mut [u8], at: usize, number: u32) -> usize
         2 => put_word(b, at, b"stuck"),
         3 => put_word(b, at, b"tasks"),
         4 => put_word(b, at, b"spent"),
-        _ => put_word(b, at, b"logfull"),
+        5 => put_word(b, at, b"logfull"),
+        _ => put_word(b, at, b"novalue"),
     }
 }
 

@@ -4,6 +4,7 @@
 use Prim.Native.Nat.{ℕ, zero, suc, _+_, _-_, _*_, _/_, _≤_, _<_}
 use mathlib.Core.Path.{_≡_, sym, ap, ap₂, _∙_, subst, subst⁻¹}
 use mathlib.Core.Bool.{Bool, true, false, cond}
+use mathlib.Core.Option.{Option, some}
 use native.Mathlib.Nat.{div-le-self, mul-le-mul, le-trans}
 use native.Mathlib.Omega.{arith}
 use lib.Dec.{ltb}
@@ -12,8 +13,7 @@ use lib.Signed.{mag, quotZ}
 use mir.Syntax.{w32, w64}
 use mir.Val.{SFits, toZ, ofZ}
 use mir.Facts.{sfits-widen, toZ-ofZ}
-use Rattle.rules.specs.Values.{clamp, quotient}
-use Rattle.values.proofs.Zero.{not-zero}
+use Rattle.rules.specs.Values.{clamp}
 
 -- a value of 32 bits widened to 64, as the code reads it
 abbrev pub wide : ℤ → ℤ
@@ -40,6 +40,11 @@ applied1 f fa ok e = result32 ok ∙ e ∙ ap f (toZ-ofZ fa)
 pub applied2 : (f : ℤ → ℤ → ℤ) {a b r : ℤ} → SFits w32 a → SFits w32 b → mag r < 2147483648
     → r ≡ f (toZ w32 (ofZ w32 a)) (toZ w32 (ofZ w32 b)) → toZ w32 (ofZ w32 r) ≡ f a b
 applied2 f fa fb ok e = result32 ok ∙ e ∙ ap₂ f (toZ-ofZ fa) (toZ-ofZ fb)
+
+-- the same where there may be no value
+pub found2 : (f : ℤ → ℤ → Option ℤ) {a b r : ℤ} → SFits w32 a → SFits w32 b → mag r < 2147483648
+    → some r ≡ f (toZ w32 (ofZ w32 a)) (toZ w32 (ofZ w32 b)) → some (toZ w32 (ofZ w32 r)) ≡ f a b
+found2 f fa fb ok e = ap some (result32 ok) ∙ e ∙ ap₂ f (toZ-ofZ fa) (toZ-ofZ fb)
 
 -- ---- sizes: mag z is n both for n and for -1 - n
 
@@ -108,9 +113,8 @@ module _ {a b : ℤ} (fa : SFits w32 a) (fb : SFits w32 b) where
       exact (ap₂ _*ℤ_ (widened fa) (widened fb))
       (small64 (mag-product a b 2147483648 2147483648 (omega (arith, mag32 fa)) (omega (arith, mag32 fb))))
 
-  pub exact-quotient : ¬ (ofZ w32 b ≡ 0) → Exact (quotZ (wide a) (wide b)) (quotient a b)
-  unfolding quotient
-  exact-quotient h = rw (not-zero b h) (exact (ap₂ quotZ (widened fa) (widened fb)) (small64 (omega (arith, mag-quot a b, mag32 fa))))
+  pub exact-quotient : Exact (quotZ (wide a) (wide b)) (quotZ a b)
+  exact-quotient = exact (ap₂ quotZ (widened fa) (widened fb)) (small64 (omega (arith, mag-quot a b, mag32 fa)))
 
 pub exact-negation : {a : ℤ} → SFits w32 a → Exact (pos 0 -ℤ wide a) (negℤ a)
 exact-negation {a} fa = exact (+ℤ-idl _ ∙ ap negℤ (widened fa)) (small64 (omega (arith, mag-neg a, mag32 fa)))

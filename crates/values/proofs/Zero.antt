@@ -2,13 +2,13 @@
 -- Assumes nothing.
 use Prim.Native.Nat.{ℕ, zero, suc, _-_, _<_, _^_}
 use mathlib.Core.Path.{_≡_, refl, ap}
-use mathlib.Core.Bool.{true, false}
+use mathlib.Core.Bool.{true, false, true≢false}
 use native.Mathlib.Omega.{arith}
 use lib.IntN.{ℤ, pos, negsuc}
 use borrow.Author.Tests.{eq-eqb, ne-eqb}
 use mir.Syntax.{w32, w64}
 use mir.Val.{SFits, ofZ}
-use Rattle.rules.specs.Values.{clamp, isZero, quotient, equal}
+use Rattle.rules.specs.Values.{isZero, equal}
 
 pub same-bits : (a b : ℤ) → SFits w32 a → SFits w32 b → ofZ w32 a ≡ ofZ w32 b → equal a b ≡ true
 same-bits (pos a) (pos b) fa fb h = eq-eqb a b h
@@ -31,11 +31,7 @@ not-zero (pos n) h = ne-eqb n 0 h
 not-zero (negsuc n) h = refl
 
 -- a divisor
-pub above-zero : (z : ℤ) → SFits w32 z → ¬ (ofZ w32 z ≡ 0) → 0 < ofZ w64 z
-above-zero (pos zero) f h = absurd (h refl)
+pub above-zero : (z : ℤ) → SFits w32 z → isZero z ≡ false → 0 < ofZ w64 z
+above-zero (pos zero) f h = absurd (true≢false h)
 above-zero (pos (suc n)) f h = omega arith
 above-zero (negsuc n) f h = omega arith
-
-pub by-zero : (a b : ℤ) → isZero b ≡ true → pos 0 ≡ clamp (quotient a b)
-unfolding quotient clamp
-by-zero a b h = rw h

@@ -1,11 +1,12 @@
 // Values of 32 bits that stop at the ends of their range: each exact result is worked out in 64 bits, where it fits.
 // A name in a contract is a definition of `rules`, also where a function here has the same name.
 ghost use mathlib.Core.Path.{_≡_};
-ghost use mathlib.Core.Bool.{not, _&&_, _||_};
+ghost use mathlib.Core.Bool.{false, not, _&&_, _||_};
+ghost use mathlib.Core.Option.{none, some};
 ghost use lib.IntN.{negℤ, _+ℤ_, _-ℤ_, _*ℤ_};
 ghost use lib.Signed.{ltZ};
 ghost use Rattle.rules.specs.Fields.{signed, bits};
-ghost use Rattle.rules.specs.Values.{clamp, quotient, equal, truth, flag, apply1, apply2};
+ghost use Rattle.rules.specs.Values.{clamp, isZero, quotient, equal, truth, flag, apply1, apply2};
 
 // The nearer end where x is out of range.
 pub fn clamp(x: i64) -> i32
@@ -38,13 +39,11 @@ pub fn product(a: i32, b: i32) -> i32
     clamp((a as i64) * (b as i64))
 }
 
-// Only the lowest value by -1 is out of range.
+// Only the lowest value by -1 is out of range. By 0 there is no value.
 pub fn quotient(a: i32, b: i32) -> i32
-    ensures { λ r. ⌜ r ≡ clamp (quotient a b) ⌝ }
+    requires { ⌜ isZero b ≡ false ⌝ }
+    ensures { λ r. ⌜ some r ≡ quotient a b ⌝ }
 {
-    if b == 0 {
-        return 0;
-    }
     clamp((a as i64) / (b as i64))
 }
 
@@ -90,9 +89,10 @@ pub fn opposite(a: i32) -> i32
     if a == 0 { 1 } else { 0 }
 }
 
-// Kind 11: an operator of two operands, by its number.
+// Kind 11: an operator of two operands, by its number, where it has a value.
 pub fn apply2(op: u8, a: i32, b: i32) -> i32
-    ensures { λ r. ⌜ r ≡ apply2 op a b ⌝ }
+    requires { ⌜ ¬ (apply2 op a b ≡ none) ⌝ }
+    ensures { λ r. ⌜ some r ≡ apply2 op a b ⌝ }
 {
     match op {
         0 => sum(a, b),

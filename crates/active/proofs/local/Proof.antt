@@ -1,4 +1,4 @@
-use Prim.Native.Nat.{suc, _+_}
+use Prim.Native.Nat.{ℕ, suc, _+_}
 use mathlib.Core.Path.{_≡_, ap, _∙_, subst}
 use native.Mathlib.Omega.{arith}
 use native.Mathlib.Numerals.{add-one}
@@ -52,6 +52,9 @@ enum-told c = search needs
 enum-told-2 : tie.Need-enum-told-2
 enum-told-2 c = search needs
 
+enum-told-3 : tie.Need-enum-told-3
+enum-told-3 c = search needs
+
 returns : tie.Need-returns
 returns c =
     let a = c .before .before .before .before .args in
@@ -89,6 +92,9 @@ returns-6 c =
     let a = c .before .before .args in
     rw (c .enum-told2 .given .1) (λ r q x d h. alone r q x d (storeWith (a .issued) (a .variables .now)) over _ h)
 
+returns-7 : tie.Need-returns-7
+returns-7 c = rw (c .enum-told3 .given .1) (λ r q x d h. absurd (let z : _≡_ {A = ℕ} 0 1 = cc in omega arith))
+
 pub local-spec : {M : Type 1} → statement M
 local-spec =
     tie.close
@@ -105,9 +111,11 @@ local-spec =
     moved-requires-2
     enum-told
     enum-told-2
+    enum-told-3
     returns
     returns-2
     returns-3
     returns-4
     returns-5
-    returns-6)
+    returns-6
+    returns-7)

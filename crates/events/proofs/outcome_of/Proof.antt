@@ -1,7 +1,7 @@
 use native.Mathlib.Omega.{arith}
 use borrow.Author.Needs.{needs}
 use Rattle.values.proofs.Exact.{result32}
-use Rattle.events.proofs.Telling.{goes-tells, gives-tells, waits-tells, ends-tells, valve-tells, set-tells, tasks-tells, spent-tells, spawned-tells}
+use Rattle.events.proofs.Telling.{goes-tells, gives-tells, waits-tells, ends-tells, lacks-tells, valve-tells, set-tells, tasks-tells, spent-tells, spawned-tells}
 use Rattle.events.proofs.outcome_of.Statement.{statement}
 use Rattle.events.proofs.outcome_of.Tie as tie
 
@@ -41,6 +41,9 @@ enum-known-m-2 c = search needs
 enum-told-4 : tie.Need-enum-told-4
 enum-told-4 c = search needs
 
+enum-told-5 : tie.Need-enum-told-5
+enum-told-5 c = search needs
+
 returns-4 : tie.Need-returns-4
 returns-4 c = rw (c .enum-told .given .1) (goes-tells _ _ _ _)
 
@@ -62,6 +65,9 @@ returns-8 c = rw (c .before .m2 .given .1, result32 (c .known-told2 .given .0 .1
 returns-9 : tie.Need-returns-9
 returns-9 c = rw (c .enum-told4 .given .1) (ends-tells _ _ _)
 
+returns-10 : tie.Need-returns-10
+returns-10 c = rw (c .enum-told5 .given .1) (lacks-tells _ _ _)
+
 pub outcome-of-spec : {M : Type 1} → statement M
 outcome-of-spec =
     tie.close
@@ -76,9 +82,11 @@ outcome-of-spec =
     enum-told-3
     enum-known-m-2
     enum-told-4
+    enum-told-5
     returns-4
     returns-5
     returns-6
     returns-7
     returns-8
-    returns-9)
+    returns-9
+    returns-10)

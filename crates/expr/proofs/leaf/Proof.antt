@@ -1,4 +1,5 @@
-use mathlib.Core.Path.{_∙_}
+use mathlib.Core.Path.{ap, _∙_}
+use mathlib.Core.Option.{some}
 use native.Mathlib.Omega.{arith}
 use mir.Facts.{toZ-ofZ}
 use Rattle.values.proofs.Exact.{result32}
@@ -19,7 +20,7 @@ signed-requires c κs = search needs
 returns : tie.Need-returns
 returns c =
     let s = c .before .before .before .before .before in
-    result32 (c .signed .ok) ∙ c .signed .ensures ∙ value-constant _ (s .pre .0) (c .before .before .if1 .taken) (c .before .word-of .ensures .0)
+    ap some (result32 (c .signed .ok) ∙ c .signed .ensures) ∙ value-constant _ (s .pre .0) (c .before .before .if1 .taken) (c .before .word-of .ensures .0)
 
 shared-slice-read-variable : tie.Need-shared-slice-read-variable
 shared-slice-read-variable c = omega (arith, whole (c .before .before .before .before .pre .0))
@@ -33,7 +34,7 @@ returns-2 : tie.Need-returns-2
 returns-2 c =
     let k = c .before .before in
     let s = k .before .before .before in
-    result32 (c .variable .ok) ∙ (rw (toZ-ofZ (s .fits .parameter)) at (c .variable .ensures)) ∙ value-variable _ (s .pre .0) (holds (s .pre .0) .leaf-is (s .pre .1) (k .if1 .left))
+    ap some (result32 (c .variable .ok) ∙ (rw (toZ-ofZ (s .fits .parameter)) at (c .variable .ensures))) ∙ value-variable _ (s .pre .0) (holds (s .pre .0) .leaf-is (s .pre .1) (k .if1 .left))
 
 pub leaf-spec : {M : Type 1} → statement M
 leaf-spec =

@@ -1,23 +1,38 @@
-use Prim.Native.Nat.{_≤_}
+use Prim.Native.Nat.{_≤_, _<_}
 use mathlib.Core.Logic.{_⊎_, inl, inr, dite}
-use mathlib.Core.Path.{_≡_, _∙_}
+use mathlib.Core.Path.{_≡_, sym, ap, _∙_}
+use mathlib.Core.Option.{Option, none, some}
 use native.Mathlib.Decide.{ℕ-discrete}
 use native.Mathlib.Omega.{arith}
 use lib.IntN.{ℤ}
+use lib.Signed.{mag}
+use mir.Syntax.{w32}
+use mir.Val.{toZ, ofZ}
 use borrow.Author.Needs.{needs}
 use Rattle.rules.specs.Recipe.{read, value}
 use Rattle.rules.specs.Table.{kindOf, nameOf, inner, exprOf}
-use Rattle.values.proofs.Exact.{fits32, applied1}
+use Rattle.values.proofs.Exact.{fits32, result32, applied1}
+use Rattle.expr.specs.declared.Evaluated.{Evaluated}
+use Rattle.expr.specs.declared.Evaluated.the-variants.{Value, NoValue}
+use Rattle.expr.specs.Evaluated.{evaluated}
 use Rattle.state.specs.View.{taskOf}
 use Rattle.moves.specs.Moves.{Enclosing}
 use Rattle.moves.proofs.Standing.{test-bounds}
-use Rattle.moves.proofs.Acting.{skip-moves, give-moves, wait-moves, set-moves, spawn-moves, test-moves, guard-moves}
+use Rattle.moves.proofs.Acting.{skip-moves, give-moves, wait-moves, set-moves, spawn-moves, test-moves, guard-moves, lacks-moves}
 use Rattle.moves.proofs.statement.Statement.{statement}
 use Rattle.moves.proofs.statement.Tie as tie
 
 -- the value of the statement's expression, by the task's parameter
-abbrev valued : tie.Start → ℤ → ℤ
+abbrev valued : tie.Start → ℤ → Option ℤ
 valued c z = value (record { variables = c .args .variables .now; parameter = z }) (exprOf (inner (c .args .part .now)))
+
+-- what was worked out, with the parameter read back: there is none, or this one
+module _ (s : tie.Start) {r : Evaluated} (f : mag (s .args .t .parameter) < 2147483648) (e : evaluated r ≡ valued s (toZ w32 (ofZ w32 (s .args .t .parameter)))) where
+  none-there : r ≡ NoValue → none ≡ valued s (s .args .t .parameter)
+  none-there g = ap evaluated (sym g) ∙ e ∙ ap (valued s) (result32 f)
+
+  some-there : {z : ℤ} → mag z < 2147483648 → r ≡ Value z → some (toZ w32 (ofZ w32 z)) ≡ valued s (s .args .t .parameter)
+  some-there {z} h g = ap some (result32 {z = z} h) ∙ ap evaluated (sym g) ∙ e ∙ ap (valued s) (result32 f)
 
 -- what is left is an if or a while
 bounds : (c : tie.At-match-rest) → let p = c .before .before .before .before .args .part .now in (4 ≤ kindOf p) × (kindOf p ≤ 5)
@@ -46,8 +61,40 @@ shared-slice-read-name c = search needs
 value-of-requires : tie.Need-value-of-requires
 value-of-requires c κs = search needs
 
+enum-known-v : tie.Need-enum-known-v
+enum-known-v c = search needs
+
+enum-told : tie.Need-enum-told
+enum-told c = search needs
+
+returns : tie.Need-returns
+returns c =
+    let v = c .before .before in
+    let k = v .before .before in
+    let s = k .before .before .before .before in
+    let a = s .args in
+    let is = none-there s (v .before .struct-told .given .1 .1 .0 .1) (v .value-of .ensures) (c .enum-told .given .1) in
+    let h = k .match .keys2 in
+    λ begin b. lacks-moves begin _ (taskOf (a .t)) (a .part .now) (a .place) (a .follow) (omega arith) (omega arith) is
+
 value-of-requires-2 : tie.Need-value-of-requires-2
 value-of-requires-2 c κs = search needs
+
+enum-known-v-2 : tie.Need-enum-known-v-2
+enum-known-v-2 c = search needs
+
+enum-told-2 : tie.Need-enum-told-2
+enum-told-2 c = search needs
+
+returns-2 : tie.Need-returns-2
+returns-2 c =
+    let v = c .before .before in
+    let k = v .before .before in
+    let s = k .before .before .before .before in
+    let a = s .args in
+    let is = none-there s (v .before .struct-told2 .given .1 .1 .0 .1) (v .value-of2 .ensures) (c .enum-told2 .given .1) in
+    let h = k .match .keys3 in
+    λ begin b. lacks-moves begin _ (taskOf (a .t)) (a .part .now) (a .place) (a .follow) (omega arith) (omega arith) is
 
 start-of-requires : tie.Need-start-of-requires
 start-of-requires c κs = search needs
@@ -58,44 +105,62 @@ variable-requires c κs = search needs
 value-of-requires-3 : tie.Need-value-of-requires-3
 value-of-requires-3 c κs = enclosing (c .before)
 
-branch-requires : tie.Need-branch-requires
-branch-requires c κs = (enclosing (c .before .before), c .before .before .before .before .before .before .pre .1)
+enum-known-v-3 : tie.Need-enum-known-v-3
+enum-known-v-3 c = search needs
 
-returns : tie.Need-returns
-returns c =
-    let a = c .before .before .before .before .args in
-    λ begin b. skip-moves begin _ (taskOf (a .t)) (a .part .now) (a .place) (a .follow) (c .match .keys1)
-
-returns-2 : tie.Need-returns-2
-returns-2 c =
-    let k = c .before .before in
-    let s = k .before .before .before .before in
-    let a = s .args in
-    let f = fits32 (c .before .struct-told .given .1 .1 .0 .1) in
-    let z = applied1 (valued s) f (c .value-of .ok) (c .value-of .ensures) in
-    let w = s .pre .0 .stands .named in
-    λ begin b. set-moves begin _ (taskOf (a .t)) (a .part .now) (a .place) (a .follow) _ z (k .match .keys2) w
+enum-told-3 : tie.Need-enum-told-3
+enum-told-3 c = search needs
 
 returns-3 : tie.Need-returns-3
 returns-3 c =
-    let v = c .before in
+    let v = c .before .before in
     let k = v .before .before in
     let s = k .before .before .before .before in
     let a = s .args in
-    let f = fits32 (v .before .struct-told2 .given .1 .1 .0 .1) in
-    let z = applied1 (valued s) f (v .value-of2 .ok) (v .value-of2 .ensures) in
+    let is = none-there s (v .before .struct-told4 .given .1 .1 .0 .1) (v .value-of3 .ensures) (c .enum-told3 .given .1) in
+    let h = bounds k in
+    λ begin b. lacks-moves begin _ (taskOf (a .t)) (a .part .now) (a .place) (a .follow) (omega (arith, h .0)) (omega (arith, h .1)) is
+
+branch-requires : tie.Need-branch-requires
+branch-requires c κs =
+    let k = c .before .before .before .before .before in
+    (enclosing k, k .before .before .before .before .pre .1)
+
+returns-4 : tie.Need-returns-4
+returns-4 c =
+    let a = c .before .before .before .before .args in
+    λ begin b. skip-moves begin _ (taskOf (a .t)) (a .part .now) (a .place) (a .follow) (c .match .keys1)
+
+returns-5 : tie.Need-returns-5
+returns-5 c =
+    let v = c .before .before .before in
+    let k = v .before .before in
+    let s = k .before .before .before .before in
+    let a = s .args in
+    let z = some-there s (v .before .struct-told .given .1 .1 .0 .1) (v .value-of .ensures) (c .known-told .given .0 .1) (c .before .v .given .1) in
+    let w = s .pre .0 .stands .named in
+    λ begin b. set-moves begin _ (taskOf (a .t)) (a .part .now) (a .place) (a .follow) _ z (k .match .keys2) w
+
+returns-6 : tie.Need-returns-6
+returns-6 c =
+    let x = c .before in
+    let v = x .before .before .before in
+    let k = v .before .before in
+    let s = k .before .before .before .before in
+    let a = s .args in
+    let z = some-there s (v .before .struct-told2 .given .1 .1 .0 .1) (v .value-of2 .ensures) (x .known-told2 .given .0 .1) (x .before .v2 .given .1) in
     let w = s .pre .0 .stands .named in
     let h = k .match .keys3 in
     λ begin b.
     spawn-moves begin _ (taskOf (a .t)) (a .part .now) (a .place) (a .follow) _ z _ h w (c .start-of .ensures ∙ b h)
 
-returns-4 : tie.Need-returns-4
-returns-4 c =
+returns-7 : tie.Need-returns-7
+returns-7 c =
     let a = c .before .before .before .before .args in
     λ begin b. give-moves begin _ (taskOf (a .t)) (a .part .now) (a .place) (a .follow) (c .match .keys4)
 
-returns-5 : tie.Need-returns-5
-returns-5 c =
+returns-8 : tie.Need-returns-8
+returns-8 c =
     let k = c .before .before in
     let s = k .before .before .before .before in
     let a = s .args in
@@ -103,19 +168,19 @@ returns-5 c =
     let z = applied1 named (fits32 (c .before .struct-told3 .given .1 .1 .0 .1)) (c .variable .ok) (c .variable .ensures) in
     λ begin b. wait-moves begin _ (taskOf (a .t)) (a .part .now) (a .place) (a .follow) _ (k .match .keys5) z
 
-returns-6 : tie.Need-returns-6
-returns-6 c =
+returns-9 : tie.Need-returns-9
+returns-9 c =
     let a = c .before .before .before .before .args in
     λ begin b. guard-moves begin _ (taskOf (a .t)) (a .part .now) (a .place) (a .follow) (c .match .keys6)
 
-returns-7 : tie.Need-returns-7
-returns-7 c =
-    let v = c .before in
+returns-10 : tie.Need-returns-10
+returns-10 c =
+    let x = c .before in
+    let v = x .before .before .before in
     let k = v .before .before in
     let s = k .before .before .before .before in
     let a = s .args in
-    let f = fits32 (v .before .struct-told4 .given .1 .1 .0 .1) in
-    let z = applied1 (valued s) f (v .value-of3 .ok) (v .value-of3 .ensures) in
+    let z = some-there s (v .before .struct-told4 .given .1 .1 .0 .1) (v .value-of3 .ensures) (x .known-told3 .given .0 .1) (x .before .v3 .given .1) in
     λ begin b. test-moves begin _ (taskOf (a .t)) (a .part .now) (a .place) (a .follow) _ z _ (tested k) (c .branch .ensures)
 
 pub statement-spec : {M : Type 1} → statement M
@@ -125,15 +190,24 @@ statement-spec =
     shared-slice-read-kind
     shared-slice-read-name
     value-of-requires
+    enum-known-v
+    enum-told
+    returns
     value-of-requires-2
+    enum-known-v-2
+    enum-told-2
+    returns-2
     start-of-requires
     variable-requires
     value-of-requires-3
-    branch-requires
-    returns
-    returns-2
+    enum-known-v-3
+    enum-told-3
     returns-3
+    branch-requires
     returns-4
     returns-5
     returns-6
-    returns-7)
+    returns-7
+    returns-8
+    returns-9
+    returns-10)

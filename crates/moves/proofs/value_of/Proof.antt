@@ -3,7 +3,6 @@ use lib.IntN.{ℤ}
 use mir.Facts.{toZ-ofZ}
 use Rattle.rules.specs.Recipe.{Expr, value}
 use Rattle.rules.specs.Table.{exprOf}
-use Rattle.values.proofs.Exact.{result32}
 use Rattle.expr.specs.Spelt.{Spelt}
 use Rattle.moves.proofs.Parts.{spelt-inner}
 use Rattle.moves.proofs.value_of.Statement.{statement}
@@ -18,7 +17,7 @@ eval-requires c κs = subst⁻¹ Spelt (c .enclosed .ensures) (spelt-inner (c .b
 returns : tie.Need-returns
 returns c =
     let s = c .before .before .before in
-    result32 (c .eval .ok) ∙ c .eval .ensures
+    c .eval .ensures
     ∙ ap₂ (λ (z : ℤ) (e : Expr). value (record { variables = s .args .variables .now; parameter = z }) e)
     (toZ-ofZ (s .fits .parameter))
     (ap exprOf (c .before .enclosed .ensures))

@@ -1,12 +1,13 @@
 use Prim.Native.Nat.{ℕ, _*_}
-use mathlib.Core.Bool.{true, false, not}
+use mathlib.Core.Bool.{not}
+use mathlib.Core.Option.{some}
 use mathlib.Core.List.{List}
 use mathlib.Core.Path.{_≡_, sym, ap, ap₂, _∙_, subst⁻¹}
 use native.Mathlib.Omega.{arith}
 use lib.IntN.{ℤ}
 use lib.ListN.{drop}
 use borrow.Author.Needs.{needs}
-use Rattle.rules.specs.Values.{isZero, truth}
+use Rattle.rules.specs.Values.{isTrue}
 use Rattle.rules.specs.Recipe.{Expr, value}
 use Rattle.rules.specs.Table.{inner, after, exprOf}
 use Rattle.rules.specs.State.{State}
@@ -15,6 +16,7 @@ use Rattle.state.specs.View.{taskOf}
 use Rattle.values.proofs.Exact.{fits32, result32}
 use Rattle.values.proofs.Zero.{is-zero, not-zero}
 use Rattle.expr.specs.Spelt.{Spelt}
+use Rattle.expr.specs.Evaluated.{evaluated}
 use Rattle.ready.proofs.There.{Place, Guard, guard-read, guard-true, guard-untrue}
 use Rattle.ready.proofs.guarded.Statement.{statement}
 use Rattle.ready.proofs.guarded.Tie as tie
@@ -51,9 +53,15 @@ eval-requires c κs =
     subst⁻¹ Spelt (c .before .enclosed .ensures ∙ ap inner (f .from .ensures))
     (record { expr = e; rest = after (inner (drop (8 * a .t .place) (a .table .now))); spelt = is; named = named })
 
--- its value, for a state with these variables
+enum-known-v : tie.Need-enum-known-v
+enum-known-v c = search needs
+
+enum-told : tie.Need-enum-told
+enum-told c = search needs
+
+-- what it gives, for a state with these variables
 worth : (c : tie.After-eval) (d : State) → let k = c .before .before .before .before .before in
-    d .store .variables ≡ k .before .args .variables .now → c .eval .result ≡ value (envOf (d .store) (taskOf (k .before .args .t))) (guard k)
+    d .store .variables ≡ k .before .args .variables .now → evaluated (c .eval .result) ≡ value (envOf (d .store) (taskOf (k .before .args .t))) (guard k)
 worth c d h =
     let f = c .before .before .before in
     let a = f .before .before .before .args in
@@ -64,19 +72,41 @@ worth c d h =
 
 returns : tie.Need-returns
 returns c d h =
-    let e = c .before in
+    let e = c .before .before in
     let k = e .before .before .before .before .before in
-    let z : isZero (e .eval .result) ≡ true = is-zero (e .eval .result) (fits32 (e .eval .ok)) (c .if1 .taken) in
-    sym (guard-untrue _ (d .store) _ (taskOf (k .before .args .t)) _ _ (there k .is) (ap truth (sym (worth e d h)) ∙ ap not z))
+    let none-there = ap evaluated (c .enum-told .given .1) in
+    sym (guard-untrue _ (d .store) _ (taskOf (k .before .args .t)) _ _ (there k .is) (ap isTrue (sym (worth e d h) ∙ none-there)))
+
+-- it has a value
+valued : (c : tie.After-known-told) (d : State) → let k = c .before .before .before .before .before .before .before .before in
+    d .store .variables ≡ k .before .args .variables .now → value (envOf (d .store) (taskOf (k .before .args .t))) (guard k) ≡ some (c .before .v .given .0 .0)
+valued c d h = sym (worth (c .before .before .before) d h) ∙ ap evaluated (c .before .v .given .1)
 
 returns-2 : tie.Need-returns-2
 returns-2 c d h =
-    let e = c .before in
-    let k = e .before .before .before .before .before in
-    let z : isZero (e .eval .result) ≡ false = not-zero (e .eval .result) (c .if1 .left) in
-    sym (guard-true _ (d .store) _ (taskOf (k .before .args .t)) _ _ (there k .is) (ap truth (sym (worth e d h)) ∙ ap not z))
+    let w = c .before in
+    let k = w .before .before .before .before .before .before .before .before in
+    let z = is-zero (w .before .v .given .0 .0) (fits32 (w .known-told .given .0 .1)) (c .if1 .taken) in
+    sym (guard-untrue _ (d .store) _ (taskOf (k .before .args .t)) _ _ (there k .is) (ap isTrue (valued w d h) ∙ ap not z))
+
+returns-3 : tie.Need-returns-3
+returns-3 c d h =
+    let w = c .before in
+    let k = w .before .before .before .before .before .before .before .before in
+    let z = not-zero (w .before .v .given .0 .0) (c .if1 .left) in
+    sym (guard-true _ (d .store) _ (taskOf (k .before .args .t)) _ _ (there k .is) (ap isTrue (valued w d h) ∙ ap not z))
 
 pub guarded-spec : {M : Type 1} → statement M
 guarded-spec =
     tie.close
-    (tie.spec cast-from mul-from from-requires enclosed-requires eval-requires returns returns-2)
+    (tie.spec
+    cast-from
+    mul-from
+    from-requires
+    enclosed-requires
+    eval-requires
+    enum-known-v
+    enum-told
+    returns
+    returns-2
+    returns-3)

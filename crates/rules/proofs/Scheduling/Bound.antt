@@ -7,7 +7,7 @@ use mathlib.Core.Option.{Option, none, some}
 use mathlib.Core.List.{List, [], _∷_, _++_, append-assoc, tail-eq-of-cons-eq}
 use native.Mathlib.Omega.{arith}
 use lib.ListN.{length}
-use Rattle.rules.specs.Scheduler.{Readiness, ready, waits-for, at-guard, Rules, Limit, Stay, on, back, over, Act, halts, does, count, Config, readiness, canGo, anyGo, Next, finish, jam, bar, goes, tryOf, jamOr, nextAct, stay, next, Ending, finished, paused, stuck, logfull, limit, stops, test}
+use Rattle.rules.specs.Scheduler.{Readiness, ready, waits-for, at-guard, Rules, Halt, tasks, spent, novalue, Stay, on, back, over, Act, halts, does, count, Config, readiness, canGo, anyGo, Next, finish, jam, bar, goes, tryOf, jamOr, nextAct, stay, next, Ending, finished, paused, stuck, logfull, halted, stops, test}
 use Rattle.rules.specs.Moments.{Call, call, budgets, Does, made, ends, Moment, trace}
 use Rattle.rules.specs.Fairness.{Every, tried, until, stepBy, longestOf, longest, Free, Stuck, TakenWithin}
 use Rattle.rules.proofs.Scheduling.Lawful.{ready-when}
@@ -20,14 +20,14 @@ module _ (R : Rules) where
   Reason b r y paused = (b ≡ 0) × (¬ (y ≡ finish)) × (¬ (y ≡ jam))
   Reason b r y stuck = y ≡ jam
   Reason b r y logfull = (1 ≤ b) × (r ≡ 0) × ((x : R .Event) × (c : Config R) × (y ≡ goes (some x) c))
-  Reason b r y (limit k) = (1 ≤ b) × (y ≡ bar k)
+  Reason b r y (halted k) = (1 ≤ b) × (y ≡ bar k)
 
   -- a call ends so exactly by its reason
   pub reason : (b r : ℕ) (y : Next R) (e : Ending) → test R b r y ≡ stops e → Reason b r y e
   reason b r finish e p = let q : finished ≡ e = cc in rw (← q) refl
   reason b r jam e p = let q : stuck ≡ e = cc in rw (← q) refl
   reason zero r (bar k) e p = let q : paused ≡ e = cc in rw (← q) (refl, (λ z. let w : _≡_ {A = ℕ} 0 1 = cc in omega arith), (λ z. let w : _≡_ {A = ℕ} 0 1 = cc in omega arith))
-  reason (suc b) r (bar k) e p = let q : limit k ≡ e = cc in rw (← q) (omega arith, refl)
+  reason (suc b) r (bar k) e p = let q : halted k ≡ e = cc in rw (← q) (omega arith, refl)
   reason zero r (goes x c) e p = let q : paused ≡ e = cc in rw (← q) (refl, (λ z. let w : _≡_ {A = ℕ} 0 1 = cc in omega arith), (λ z. let w : _≡_ {A = ℕ} 0 1 = cc in omega arith))
   reason (suc b) r (goes none c) e p = absurd (let z : _≡_ {A = ℕ} 0 1 = cc in omega arith)
   reason (suc b) zero (goes (some x) c) e p = let q : logfull ≡ e = cc in rw (← q) (omega arith, refl, (x, c, refl))
@@ -44,8 +44,8 @@ module _ (R : Rules) where
   ends-by zero r y logfull h = absurd (omega (arith, h .0))
   ends-by (suc b) zero y logfull h = rw (h .2 .2) refl
   ends-by (suc b) (suc r) y logfull h = absurd (omega (arith, h .1))
-  ends-by zero r y (limit k) h = absurd (omega (arith, h .0))
-  ends-by (suc b) r y (limit k) h = rw (h .1) refl
+  ends-by zero r y (halted k) h = absurd (omega (arith, h .0))
+  ends-by (suc b) r y (halted k) h = rw (h .1) refl
 
   none-go : (c : Config R) (q : List (R .Task)) → anyGo R c q ≡ false → Every (λ t. canGo R c t ≡ false) q
   none-go c [] h = tt
@@ -97,7 +97,7 @@ module _ (R : Rules) where
       go s none (t ∷ q) h = rw (go-none (idleC R s (t ∷ q)) (t ∷ q) (h .none-ready)) refl
       go s (some t) q h = absurd (let p : some t ≡ none = h .idle in let z : _≡_ {A = ℕ} 0 1 = cc in omega arith)
 
-  pub idle-no-bar : (s : R .Store) (t : R .Task) (q : List (R .Task)) (k : Limit) → ¬ (next R (idleC R s (t ∷ q)) ≡ bar k)
+  pub idle-no-bar : (s : R .Store) (t : R .Task) (q : List (R .Task)) (k : Halt) → ¬ (next R (idleC R s (t ∷ q)) ≡ bar k)
   idle-no-bar s t q k = go (anyGo R (idleC R s (t ∷ q)) (t ∷ q)) (readiness R (idleC R s (t ∷ q)) t)
     where
       go : (u : Bool) (v : Readiness) → ¬ (jamOr R u (tryOf R v (idleC R s (t ∷ q)) t q) ≡ bar k)
@@ -181,7 +181,9 @@ module _ (R : Rules) where
       go paused z y = later (endM R c b r cs paused) ms (need (c .active) d (length A) b′ + 1) (need (c .active) d (length A) b′ + 1) t refl (omega arith) (ih d b′ A B t q n (w .1) (f .1) l (omega (arith, z .0)))
       go stuck z y = absurd (let v = jam-stuck c z in let g = w .0 (v .idle) in let g′ = every-mid (λ u. canGo R c u ≡ false) A t B (subst (λ l. Every (λ u. canGo R c u ≡ false) l) q (v .none-ready)) in (let z : _≡_ {A = ℕ} 0 1 = cc in omega arith))
       go logfull z y = absurd (y tt)
-      go (limit k) z y = absurd (y tt)
+      go (halted tasks) z y = absurd (y tt)
+      go (halted spent) z y = absurd (y tt)
+      go (halted novalue) z y = absurd (y tt)
 
   pub grow : {A : Type 0} {q : List A} (xs : List A) (u : A) (ys : List A) (new : List A) → q ≡ xs ++ (u ∷ ys) → q ++ new ≡ xs ++ (u ∷ (ys ++ new))
   grow xs u ys new e = ap (λ l. l ++ new) e ∙ append-assoc xs (u ∷ ys) new

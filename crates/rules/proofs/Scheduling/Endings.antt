@@ -5,7 +5,7 @@ use mathlib.Core.Path.{_≡_, refl, sym, ap, _∙_, subst₂}
 use mathlib.Core.Logic.{_↔_}
 use native.Mathlib.Omega.{arith}
 use lib.ListN.{length}
-use Rattle.rules.specs.Scheduler.{Rules, Config, next, Ending, finished, paused, stuck, logfull, limit, tasks, spent, numberOf, What, stops, test, size, Run, step, run, ending, last, stepsOf, log}
+use Rattle.rules.specs.Scheduler.{Rules, Config, next, Ending, finished, paused, stuck, logfull, halted, tasks, spent, novalue, numberOf, What, stops, test, size, Run, step, run, ending, last, stepsOf, log}
 use Rattle.rules.proofs.Scheduling.Bound.{Reason, reason, ends-by}
 use Rattle.rules.proofs.Scheduling.Whole.{by-test, length-log}
 
@@ -14,9 +14,10 @@ endingOf : ℕ → Ending
 endingOf zero = finished
 endingOf (suc zero) = paused
 endingOf (suc (suc zero)) = stuck
-endingOf (suc (suc (suc zero))) = limit tasks
-endingOf (suc (suc (suc (suc zero)))) = limit spent
-endingOf (suc (suc (suc (suc (suc n))))) = logfull
+endingOf (suc (suc (suc zero))) = halted tasks
+endingOf (suc (suc (suc (suc zero)))) = halted spent
+endingOf (suc (suc (suc (suc (suc zero))))) = logfull
+endingOf (suc (suc (suc (suc (suc (suc n)))))) = halted novalue
 
 ending-is : (e : Ending) → endingOf (numberOf e) ≡ e
 unfolding endingOf numberOf
@@ -24,8 +25,13 @@ ending-is finished = refl
 ending-is paused = refl
 ending-is stuck = refl
 ending-is logfull = refl
-ending-is (limit tasks) = refl
-ending-is (limit spent) = refl
+ending-is (halted tasks) = refl
+ending-is (halted spent) = refl
+ending-is (halted novalue) = refl
+
+-- an ending by its number
+pub ending-by : (e e′ : Ending) → numberOf e ≡ numberOf e′ → e ≡ e′
+ending-by e e′ h = sym (ending-is e) ∙ ap endingOf h ∙ ending-is e′
 
 module _ (R : Rules) where
   -- the call u, given a budget and room, keeps within them, and stops where the tests say so
@@ -55,7 +61,7 @@ module _ (R : Rules) where
   by-number b r c e =
       let u = run R b r c in
       let h = stopped b r c .tests in (
-        λ g. reason R _ _ _ e (h ∙ ap stops (sym (ending-is (ending R u)) ∙ ap endingOf g ∙ ending-is e)),
+        λ g. reason R _ _ _ e (h ∙ ap stops (ending-by (ending R u) e g)),
         λ g. same e (ending R u) (sym (ends-by R _ _ _ e g) ∙ h),
       )
     where

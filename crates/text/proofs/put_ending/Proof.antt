@@ -40,6 +40,12 @@ slice-aggregate-put-word-6 c = search needs
 put-word-requires-6 : tie.Need-put-word-requires-6
 put-word-requires-6 c κs = search needs
 
+slice-aggregate-put-word-7 : tie.Need-slice-aggregate-put-word-7
+slice-aggregate-put-word-7 c = search needs
+
+put-word-requires-7 : tie.Need-put-word-requires-7
+put-word-requires-7 c κs = search needs
+
 same-length : tie.Need-same-length
 same-length c = search needs
 
@@ -80,11 +86,18 @@ same-length-6 c = search needs
 
 returns-6 : tie.Need-returns-6
 unfolding endingWord
-returns-6 c =
+returns-6 c = rw (c .before .before .before .before .before .match .keys6) (c .before .before .put-word6 .ensures)
+
+same-length-7 : tie.Need-same-length-7
+same-length-7 c = search needs
+
+returns-7 : tie.Need-returns-7
+unfolding endingWord
+returns-7 c =
     let n = c .before .before .before .before .before .match .rest in
     let k = c .before .before .before .before .before .before .before .args .number in
-    rw (ne-eqb k 0 (n .0 .0 .0 .0 .1), ne-eqb k 1 (n .0 .0 .0 .1), ne-eqb k 2 (n .0 .0 .1), ne-eqb k 3 (n .0 .1), ne-eqb k 4 (n .1))
-    (c .before .before .put-word6 .ensures)
+    rw (ne-eqb k 0 (n .0 .0 .0 .0 .0 .1), ne-eqb k 1 (n .0 .0 .0 .0 .1), ne-eqb k 2 (n .0 .0 .0 .1), ne-eqb k 3 (n .0 .0 .1), ne-eqb k 4 (n .0 .1), ne-eqb k 5 (n .1))
+    (c .before .before .put-word7 .ensures)
 
 pub put-ending-spec : {M : Type 1} → statement M
 put-ending-spec =
@@ -102,6 +115,8 @@ put-ending-spec =
     put-word-requires-5
     slice-aggregate-put-word-6
     put-word-requires-6
+    slice-aggregate-put-word-7
+    put-word-requires-7
     same-length
     returns
     same-length-2
@@ -113,4 +128,6 @@ put-ending-spec =
     same-length-5
     returns-5
     same-length-6
-    returns-6)
+    returns-6
+    same-length-7
+    returns-7)

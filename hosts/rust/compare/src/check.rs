@@ -6,7 +6,7 @@ use std::collections::BTreeMap;
 use std::fmt;
 
 /// The published numbers that a run can return; 23 is published too, but 22 always comes first.
-pub const RUN_NUMBERS: [u32; 15] = [0, 1, 2, 3, 4, 5, 11, 12, 13, 14, 15, 16, 17, 21, 22];
+pub const RUN_NUMBERS: [u32; 16] = [0, 1, 2, 3, 4, 5, 11, 12, 13, 14, 15, 16, 17, 21, 22, 24];
 /// The published numbers that a start can return.
 pub const START_NUMBERS: [u32; 9] = [0, 11, 12, 13, 14, 15, 16, 17, 21];
 
@@ -23,6 +23,8 @@ pub struct Coverage {
     pub runs: BTreeMap<u32, u64>,
     /// How many cases had 22 at this state record.
     pub blocks: BTreeMap<u32, u64>,
+    /// How many cases had 24 at a statement of this kind.
+    pub lacking: BTreeMap<u32, u64>,
 }
 
 impl Coverage {
@@ -40,10 +42,10 @@ impl Coverage {
                 panic!("{origin}: the library and the model differ");
             }
         };
-        self.count(&outcomes);
+        self.count(case, &outcomes);
     }
 
-    fn count(&mut self, outcomes: &[Outcome]) {
+    fn count(&mut self, case: &Case, outcomes: &[Outcome]) {
         self.cases += 1;
         self.calls += outcomes.len() as u64 - 1;
         *self.starts.entry(outcomes[0].number).or_default() += 1;
@@ -55,19 +57,22 @@ impl Coverage {
             }
             if outcomes[1..i].iter().all(|earlier| earlier.number != outcome.number) {
                 *self.runs.entry(outcome.number).or_default() += 1;
-                if outcome.number == 22 {
-                    *self.blocks.entry(place).or_default() += 1;
+                match outcome.number {
+                    22 => *self.blocks.entry(place).or_default() += 1,
+                    24 => *self.lacking.entry(case.table[8 * place as usize].into()).or_default() += 1,
+                    _ => {}
                 }
             }
         }
     }
 
-    /// Whether every published number except 23 occurred, 22 at every record that can be at fault, and every kind of log
-    /// record.
+    /// Whether every published number except 23 occurred, 22 at every record that can be at fault, 24 at every kind of
+    /// statement that needs a value, and every kind of log record.
     pub fn is_whole(&self) -> bool {
         START_NUMBERS.iter().all(|number| self.starts.contains_key(number))
             && RUN_NUMBERS.iter().all(|number| self.runs.contains_key(number))
             && (0..=32).all(|record| self.blocks.contains_key(&record))
+            && (3..=6).all(|kind| self.lacking.contains_key(&kind))
             && (1..=7).all(|kind| self.records.contains_key(&kind))
     }
 }
@@ -83,6 +88,7 @@ impl fmt::Display for Coverage {
         writeln!(f, "cases by number of a run: {}", row(&self.runs))?;
         writeln!(f, "cases by number of the start: {}", row(&self.starts))?;
         writeln!(f, "cases by state record of 22: {}", row(&self.blocks))?;
+        writeln!(f, "cases by kind of the statement of 24: {}", row(&self.lacking))?;
         writeln!(f, "log records by kind: {}", row(&self.records))
     }
 }

@@ -14,6 +14,9 @@ pub const TWO: u8 = 11;
 pub const ONE: u8 = 12;
 pub const GUARD: u8 = 13;
 
+/// The operator of kind 11 whose result may be missing.
+pub const QUOTIENT: u8 = 3;
+
 /// A table under construction, with the places that a task may stand at.
 #[derive(Clone, Debug, Default)]
 pub struct Recipe {
@@ -73,6 +76,14 @@ impl Recipe {
 
     pub fn read(&mut self, name: u8) {
         self.leaf(READ, name, 0);
+    }
+
+    /// An operator of kind 11 with its operands.
+    pub fn two(&mut self, operator: u8, first: impl FnOnce(&mut Recipe), second: impl FnOnce(&mut Recipe)) {
+        self.node(TWO, operator, 0, |r| {
+            first(r);
+            second(r);
+        });
     }
 
     /// An endless loop.

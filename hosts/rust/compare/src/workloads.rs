@@ -1,7 +1,7 @@
 //! The benchmark's workloads: each is one call, made again and again from the same block.
 
 use crate::case::Side;
-use crate::recipe::{Recipe, AWAIT, GUARD, IF, SET, SKIP, SUSPEND, TWO};
+use crate::recipe::{Recipe, AWAIT, GUARD, IF, QUOTIENT, SET, SKIP, SUSPEND, TWO};
 use std::hint::black_box;
 
 /// The most records of a table.
@@ -83,6 +83,7 @@ pub fn workloads() -> Vec<Workload> {
         Workload::new("guard", Step, guarded(32), WARM, STEPS),
         Workload::new("spawn", Step, spawner(), 0, STEPS),
         deep(LEVELS),
+        Workload::new("quotients", Step, quotients(), 0, STEPS),
         Workload::new("short-calls", Call, mixed_table(RECORDS), 100, 10),
         Workload::new("check-flat", Record, flat_table(), 0, 0),
         Workload::new("check-expressions", Record, expression_table(), 0, 0),
@@ -111,12 +112,7 @@ pub fn check(records: usize) -> Workload {
 
 /// Sets a variable to itself and another by an operator.
 fn set(r: &mut Recipe, name: u8, operator: u8, other: u8) {
-    r.node(SET, name, 0, |r| {
-        r.node(TWO, operator, 0, |r| {
-            r.read(name);
-            r.read(other);
-        });
-    });
+    r.node(SET, name, 0, |r| r.two(operator, |r| r.read(name), |r| r.read(other)));
 }
 
 /// A loop of local statements.
@@ -128,10 +124,7 @@ fn local_loop() -> Recipe {
             set(r, 8, 0, 9);
             r.leaf(SKIP, 0, 0);
             r.node(IF, 0, 0, |r| {
-                r.node(TWO, 4, 0, |r| {
-                    r.read(8);
-                    r.constant(1_000_000);
-                });
+                r.two(4, |r| r.read(8), |r| r.constant(1_000_000));
                 set(r, 10, 1, 8);
             });
         });
@@ -173,14 +166,8 @@ fn waiters(tasks: usize) -> Recipe {
 /// One task that suspends; the others wait at guards, each until a variable has passed a value of its own, which it never
 /// does.
 fn guarded(tasks: usize) -> Recipe {
-    first_and_others_with(tasks, |task| task as i32, |r| {
-        r.node(GUARD, 0, 0, |r| {
-            r.node(TWO, 4, 0, |r| {
-                r.read(64);
-                r.read(9);
-            });
-        });
-    })
+    let guard = |r: &mut Recipe| r.node(GUARD, 0, 0, |r| r.two(4, |r| r.read(64), |r| r.read(9)));
+    first_and_others_with(tasks, |task| task as i32, guard)
 }
 
 /// Spawns a task that ends at once, and waits for it.
@@ -212,13 +199,30 @@ fn nested(r: &mut Recipe, levels: usize, first: bool) {
     });
 }
 
-/// Two sets of nested expressions in a loop.
+/// Two sets of nested expressions in a loop. They read a variable that stays 1, so that no divisor is 0.
 fn nested_sets(levels: usize) -> Recipe {
     let mut recipe = Recipe::new();
     recipe.procedure(|r| {
+        r.node(SET, 8, 0, |r| r.constant(1));
         r.forever(|r| {
-            r.node(SET, 8, 0, |r| nested(r, levels, true));
-            r.node(SET, 9, 0, |r| nested(r, levels, false));
+            r.node(SET, 9, 0, |r| nested(r, levels, true));
+            r.node(SET, 10, 0, |r| nested(r, levels, false));
+        });
+    });
+    recipe
+}
+
+/// A loop of shares of a flow: sets of quotients by a count of sensors, which is not 0.
+fn quotients() -> Recipe {
+    let (flow, sensors) = (8, 9);
+    let mut recipe = Recipe::new();
+    recipe.procedure(|r| {
+        r.node(SET, flow, 0, |r| r.constant(1_000_000));
+        r.node(SET, sensors, 0, |r| r.constant(3));
+        r.forever(|r| {
+            for share in 10..13 {
+                r.node(SET, share, 0, |r| r.two(QUOTIENT, |r| r.read(flow), |r| r.read(sensors)));
+            }
         });
     });
     recipe
@@ -271,10 +275,7 @@ fn tree(r: &mut Recipe, levels: u32) {
     if levels == 0 {
         return r.read(8);
     }
-    r.node(TWO, (levels % 8) as u8, 0, |r| {
-        tree(r, levels - 1);
-        tree(r, levels - 1);
-    });
+    r.two((levels % 8) as u8, |r| tree(r, levels - 1), |r| tree(r, levels - 1));
 }
 
 /// A table of 4,096 records, nearly all in expressions.
@@ -287,4 +288,18 @@ fn expression_table() -> Recipe {
         fill(r, RECORDS);
     });
     recipe
+}
+
+#[cfg(test)]
+mod tests {
+    use super::*;
+    use crate::case::{LIBRARY, MODEL};
+
+    #[test]
+    fn each_call_is_accepted_and_uses_its_budget_up() {
+        for workload in workloads().into_iter().chain((1..=LEVELS).map(deep)) {
+            workload.make(&MODEL, 1);
+            workload.make(&LIBRARY, 1);
+        }
+    }
 }

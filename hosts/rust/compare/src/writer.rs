@@ -1,7 +1,7 @@
 //! Random recipes.
 
 use crate::random::Random;
-use crate::recipe::{Recipe, AWAIT, GUARD, IF, ONE, PROCEDURE, SET, SKIP, SPAWN, SUSPEND, TWO, WHILE};
+use crate::recipe::{Recipe, AWAIT, GUARD, IF, ONE, PROCEDURE, QUOTIENT, SET, SKIP, SPAWN, SUSPEND, TWO, WHILE};
 
 /// What a random recipe is like.
 #[derive(Clone, Debug)]
@@ -17,6 +17,8 @@ pub struct Style {
     pub wide: usize,
     /// The chance in a hundred of a spawn among the statements without a body.
     pub spawns: usize,
+    /// The chance in a hundred of a divisor that may be 0, in a statement that then stops the run.
+    pub zeros: usize,
 }
 
 impl Style {
@@ -42,13 +44,14 @@ impl Style {
             nesting: random.pick(&[15, 40, 40, 60, 90]),
             wide: random.pick(&[0, 0, 10, 50]),
             spawns: random.pick(&[5, 20, 20, 50]),
+            zeros: random.pick(&[0, 30, 100]),
         }
     }
 }
 
 /// A random recipe that passes, unless its style goes deeper than 16.
 pub fn random_recipe(random: &mut Random, style: &Style) -> Recipe {
-    let mut writer = Writer { random, style, recipe: Recipe::new(), limit: 0 };
+    let mut writer = Writer { random, style, recipe: Recipe::new(), limit: 0, zeros: style.zeros };
     let share = style.records / style.procedures.max(1);
     for i in 1..=style.procedures {
         writer.limit = if i == style.procedures { style.records } else { i * share };
@@ -61,8 +64,9 @@ pub fn random_recipe(random: &mut Random, style: &Style) -> Recipe {
 pub fn lively_recipe(random: &mut Random) -> Recipe {
     let procedures = random.within(2, 6);
     let nesting = random.pick(&[10, 30]);
-    let style = Style { records: 0, procedures, deepest: 16, nesting, wide: 0, spawns: random.pick(&[0, 0, 1, 3]) };
-    let mut writer = Writer { random, style: &style, recipe: Recipe::new(), limit: 0 };
+    let (spawns, zeros) = (random.pick(&[0, 0, 1, 3]), random.pick(&[0, 0, 10]));
+    let style = Style { records: 0, procedures, deepest: 16, nesting, wide: 0, spawns, zeros };
+    let mut writer = Writer { random, style: &style, recipe: Recipe::new(), limit: 0, zeros };
     for i in 0..procedures {
         writer.limit = writer.recipe.records() + 60;
         writer.node(PROCEDURE, 0, 0, |w| {
@@ -89,6 +93,8 @@ struct Writer<'a> {
     recipe: Recipe,
     /// The records that the table may have up to here.
     limit: usize,
+    /// The chance in a hundred of a divisor that may be 0, in the expression at hand.
+    zeros: usize,
 }
 
 impl Writer<'_> {
@@ -162,8 +168,15 @@ impl Writer<'_> {
             12..47 => self.node(SET, name, 0, |w| w.expression(depth + 1)),
             47..67 => self.recipe.leaf(SUSPEND, 0, 0),
             67..84 => self.recipe.leaf(AWAIT, name, 0),
-            _ => self.node(GUARD, 0, 0, |w| w.expression(depth + 1)),
+            _ => self.guard(depth),
         }
+    }
+
+    /// A guard, whose divisors may always be 0: without a value it stops no run.
+    fn guard(&mut self, depth: u32) {
+        self.zeros = 100;
+        self.node(GUARD, 0, 0, |w| w.expression(depth + 1));
+        self.zeros = self.style.zeros;
     }
 
     /// An if or a while with a few statements; some loops count.
@@ -212,18 +225,7 @@ impl Writer<'_> {
                 let operator = self.random.below(2) as u8;
                 return self.node(ONE, operator, 0, |w| w.expression(depth + 1));
             }
-            let operator = self.random.below(8) as u8;
-            let ends = self.random.percent(10);
-            return self.node(TWO, operator, 0, |w| {
-                for _ in 0..2 {
-                    if ends {
-                        let value = w.random.pick(&ENDS);
-                        w.recipe.constant(value);
-                    } else {
-                        w.expression(depth + 1);
-                    }
-                }
-            });
+            return self.two_operands(depth);
         }
         if self.random.percent(50) {
             let name = self.name();
@@ -232,6 +234,23 @@ impl Writer<'_> {
             let value = random_value(self.random);
             self.recipe.constant(value);
         }
+    }
+
+    fn two_operands(&mut self, depth: u32) {
+        let operator = self.random.below(8) as u8;
+        let ends = self.random.percent(10);
+        let nonzero = operator == QUOTIENT && !self.random.percent(self.zeros);
+        self.node(TWO, operator, 0, |w| {
+            for second in [false, true] {
+                // None of the ends is 0.
+                if ends || (second && nonzero) {
+                    let value = w.random.pick(&ENDS);
+                    w.recipe.constant(value);
+                } else {
+                    w.expression(depth + 1);
+                }
+            }
+        });
     }
 }
 

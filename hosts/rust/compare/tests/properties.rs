@@ -3,15 +3,16 @@
 
 use compare::generate::random_case;
 use compare::random::Random;
-use compare::recipe::{Recipe, AWAIT, CONSTANT, GUARD, READ, SUSPEND, TWO};
+use compare::recipe::{Recipe, AWAIT, CONSTANT, GUARD, QUOTIENT, READ, SET, SPAWN, SUSPEND, TWO};
 use compare::writer::{lively_recipe, random_recipe, Style};
-use recipe_runner::{run, start};
+use recipe_runner::{run, start, Answer};
 use std::collections::BTreeMap;
 
 const FINISHED: u32 = 0;
 const PAUSED: u32 = 1;
 const STUCK: u32 = 2;
 const LOGFULL: u32 = 5;
+const NOVALUE: u32 = 24;
 
 /// A block, read by hand.
 struct View<'a> {
@@ -65,27 +66,47 @@ impl View<'_> {
         let place = usize::from(self.word(8 * record + 2));
         match self.table.get(8 * place..8 * place + 2)? {
             [AWAIT, name] => Some(self.read(record, *name)).filter(|number| !self.is_done(*number)),
-            [GUARD, _] => Some(0).filter(|_| self.expression(record, place + 1).0 == 0),
+            [GUARD, _] => Some(0).filter(|_| matches!(self.expression(record, place + 1), None | Some(0))),
             _ => None,
         }
     }
 
-    /// The value of the expression at an index for the task of a state record, and the index after it.
-    fn expression(&self, record: usize, at: usize) -> (i32, usize) {
+    /// Whether the task of a state record stands at a guard without a value.
+    fn lacks_at_guard(&self, record: usize) -> bool {
+        let place = usize::from(self.word(8 * record + 2));
+        self.table.get(8 * place) == Some(&GUARD) && self.expression(record, place + 1).is_none()
+    }
+
+    /// The place of the active task and the kind of its statement, if that is a set, a test or a spawn without a value.
+    fn lacking(&self) -> Option<(u32, u8)> {
+        let place = usize::from(self.word(10));
+        let kind = *self.table.get(8 * place).filter(|_| self.active())?;
+        let lacks = (SET..=SPAWN).contains(&kind) && self.expression(1, place + 1).is_none();
+        lacks.then_some((place as u32, kind))
+    }
+
+    /// The value of the expression at an index for the task of a state record: none of a quotient by 0, nor with an
+    /// operand that has none.
+    fn expression(&self, record: usize, at: usize) -> Option<i32> {
         let [kind, name, _, _, value @ ..] = self.table.as_chunks::<8>().0[at];
         match kind {
-            CONSTANT => (i32::from_le_bytes(value), at + 1),
-            READ => (self.read(record, name), at + 1),
+            CONSTANT => Some(i32::from_le_bytes(value)),
+            READ => Some(self.read(record, name)),
             TWO => {
-                let (a, second) = self.expression(record, at + 1);
-                let (b, after) = self.expression(record, second);
-                (two_operands(name, a.into(), b.into()), after)
+                let second = at + 2 + usize::from(self.span(at + 1));
+                let operands = (self.expression(record, at + 1), self.expression(record, second));
+                two_operands(name, operands.0?.into(), operands.1?.into())
             }
             _ => {
-                let (a, after) = self.expression(record, at + 1);
-                (if name == 0 { held(-i64::from(a)) } else { i32::from(a == 0) }, after)
+                let a = self.expression(record, at + 1)?;
+                Some(if name == 0 { held(-i64::from(a)) } else { i32::from(a == 0) })
             }
         }
+    }
+
+    /// How many records a record encloses.
+    fn span(&self, at: usize) -> u16 {
+        u16::from_le_bytes([self.table[8 * at + 2], self.table[8 * at + 3]])
     }
 
     fn is_stuck(&self) -> bool {
@@ -98,17 +119,17 @@ fn held(exact: i64) -> i32 {
     exact.clamp(i32::MIN.into(), i32::MAX.into()) as i32
 }
 
-fn two_operands(operator: u8, a: i64, b: i64) -> i32 {
-    match operator {
+fn two_operands(operator: u8, a: i64, b: i64) -> Option<i32> {
+    Some(match operator {
         0 => held(a + b),
         1 => held(a - b),
         2 => held(a * b),
-        3 => held(a.checked_div(b).unwrap_or(0)),
+        3 => held(a.checked_div(b)?),
         4 => i32::from(a < b),
         5 => i32::from(a == b),
         6 => i32::from(a != 0 && b != 0),
         _ => i32::from(a != 0 || b != 0),
-    }
+    })
 }
 
 fn fresh(table: &[u8]) -> Vec<u8> {
@@ -146,21 +167,25 @@ fn trace(table: &[u8], steps: usize) -> Trace {
     trace
 }
 
-/// Recipes that keep many tasks busy, the first three of a fixed kind; some others that mostly end.
+/// Recipes that keep many tasks busy, the first four of a fixed kind; some others that mostly end.
 fn recipes(seed: u64, count: usize) -> impl Iterator<Item = Recipe> {
     let mut random = Random::new(seed);
-    let short = Style { records: 40, procedures: 3, deepest: 16, nesting: 30, wide: 0, spawns: 20 };
+    let short = Style { nesting: 30, zeros: 10, ..SHORT };
     (0..count).map(move |i| match i {
         0 => many_tasks(|r| r.leaf(SUSPEND, 0, 0)),
         1 => many_tasks(|r| r.leaf(AWAIT, 64, 0)),
         2 => many_tasks(|r| r.node(GUARD, 0, 0, |r| r.read(9))),
+        3 => many_tasks(|r| r.node(GUARD, 0, 0, |r| r.two(QUOTIENT, |r| r.constant(1), |r| r.read(9)))),
         _ if i % 3 == 0 => random_recipe(&mut random, &short),
         _ => lively_recipe(&mut random),
     })
 }
 
+/// A style of short recipes, with operators of all kinds.
+const SHORT: Style = Style { records: 40, procedures: 3, deepest: 16, nesting: 60, wide: 0, spawns: 20, zeros: 100 };
+
 /// One task that suspends, and 30 others that make the same statement again and again: suspend, wait for the first, or
-/// wait at an untrue guard.
+/// wait at an untrue guard or at one without a value.
 fn many_tasks(statement: fn(&mut Recipe)) -> Recipe {
     let mut recipe = Recipe::new();
     recipe.procedure(|r| {
@@ -222,6 +247,7 @@ fn picks_stay_stuck(random: &mut Random, table: &[u8], mut block: Vec<u8>) {
 /// A try is of the front, which is taken exactly if it is ready; other steps leave the queue's order.
 #[test]
 fn each_try_is_of_the_front() {
+    let mut lacking = 0;
     for recipe in recipes(13, 600) {
         let table = &recipe.table;
         let trace = trace(table, 1_500);
@@ -233,9 +259,44 @@ fn each_try_is_of_the_front() {
                     None => (2, view.number(1), 0),
                 };
                 assert_eq!(*record, Some(expected));
+                lacking += u32::from(view.lacks_at_guard(1));
             } else {
                 assert!(!matches!(record, Some((2 | 5, _, _))));
             }
+        }
+    }
+    assert!(lacking > 1_000, "{lacking}");
+}
+
+/// A run stops with 24 exactly where the active task's set, test or spawn has no value and the budget allows a step.
+#[test]
+fn a_missing_value_stops_the_run() {
+    let steps = 300;
+    let mut random = Random::new(23);
+    let mut kinds = BTreeMap::new();
+    for _ in 0..4_000 {
+        let table = &random_recipe(&mut random, &SHORT).table;
+        let trace = trace(table, steps);
+        let Some((last, before)) = trace.blocks.split_last() else { continue };
+        assert!(before.iter().all(|block| View { table, block }.lacking().is_none()));
+        let lacking = View { table, block: last }.lacking().filter(|_| before.len() < steps);
+        assert_eq!(trace.ending == NOVALUE, lacking.is_some());
+        if let Some((place, kind)) = lacking {
+            stops_at(table, last, place);
+            *kinds.entry(kind).or_insert(0) += 1;
+        }
+    }
+    assert!((SET..=SPAWN).all(|kind| kinds[&kind] > 20), "{kinds:?}");
+}
+
+/// Each call stops with 24 at the place, without a step, whatever its log's room; without a budget it is paused.
+fn stops_at(table: &[u8], block: &[u8], place: u32) {
+    for (budget, number, place) in [(0, PAUSED, 0), (1, NOVALUE, place), (u32::MAX, NOVALUE, place)] {
+        for room in [0, 8, 800] {
+            let mut after = block.to_vec();
+            let answer = run(table, &mut after, budget, &mut vec![0; room]);
+            assert_eq!(answer, Answer { number, steps: 0, records: 0, place });
+            assert_eq!(after, block);
         }
     }
 }

@@ -39,7 +39,7 @@ fn a_wrong_count_shrinks_to_one_turn() {
     for case in shrunk(&COUNTS_TURNS_TWICE, 7) {
         assert_eq!(case.calls.len(), 1, "{case}");
         assert_eq!((case.calls[0].budget, case.calls[0].log.len()), (1, 8), "{case}");
-        assert!(case.table.len() <= 24, "{case}");
+        assert!(case.table.len() <= 32, "{case}");
     }
 }
 
@@ -53,11 +53,11 @@ const MISNAMES_NAMES: Side = Side {
 };
 
 #[test]
-fn a_wrong_refusal_shrinks_to_the_record_and_its_parents() {
+fn a_wrong_refusal_shrinks_to_the_record_with_its_parents_and_operands() {
     for case in shrunk(&MISNAMES_NAMES, 8) {
         assert_eq!(case.calls.len(), 0, "{case}");
         assert_eq!(case.block.len(), 0, "{case}");
-        assert!(case.table.len() <= 24, "{case}");
+        assert!(case.table.len() <= 40, "{case}");
     }
 }
 
@@ -81,6 +81,24 @@ fn a_spoilt_log_shrinks_to_one_valve() {
         assert_eq!(case.calls.len(), 1, "{case}");
         assert_eq!((case.calls[0].budget, case.calls[0].log.len()), (1, 8), "{case}");
         assert!(case.table.len() <= 24, "{case}");
+    }
+}
+
+/// A side that does not say where a value is missing.
+const LOSES_THE_PLACE: Side = Side {
+    start: MODEL.start,
+    run: |table, state, budget, log| match (MODEL.run)(table, state, budget, log) {
+        [24, steps, records, _] => [24, steps, records, 0],
+        other => other,
+    },
+};
+
+#[test]
+fn a_lost_place_shrinks_to_one_quotient() {
+    for case in shrunk(&LOSES_THE_PLACE, 10) {
+        assert_eq!(case.calls.len(), 1, "{case}");
+        assert_eq!((case.calls[0].budget, case.calls[0].log.len()), (1, 0), "{case}");
+        assert!(case.table.len() <= 40, "{case}");
     }
 }
 

@@ -1,11 +1,11 @@
 //! Whole families of inputs, the library against the model: every way that a block can fail at every record, every
-//! byte of a table, and every small table.
+//! byte of a table, every small table, and every statement over a quotient by 0.
 
-use compare::block::{block_of, damage_block, TASKS, WAYS};
+use compare::block::{block_of, damage_block, put_place, TASKS, WAYS};
 use compare::case::{Call, Case};
 use compare::check::Coverage;
 use compare::random::Random;
-use compare::recipe::{Recipe, AWAIT, GUARD, IF, ONE, SET, SKIP, SPAWN, SUSPEND, TWO, WHILE};
+use compare::recipe::{Recipe, AWAIT, GUARD, IF, ONE, QUOTIENT, SET, SKIP, SPAWN, SUSPEND, WHILE};
 use compare::writer::{random_recipe, Style};
 
 fn calls(budgets: &[u32]) -> Vec<Call> {
@@ -17,21 +17,13 @@ fn every_kind() -> Recipe {
     let mut recipe = Recipe::new();
     recipe.procedure(|r| {
         r.node(WHILE, 0, 0, |r| {
-            r.node(TWO, 4, 0, |r| {
-                r.read(9);
-                r.constant(3);
-            });
+            r.two(4, |r| r.read(9), |r| r.constant(3));
             r.spawn(8, 1, 5);
             r.node(IF, 0, 0, |r| {
                 r.node(ONE, 1, 0, |r| r.read(8));
                 r.leaf(SKIP, 0, 0);
             });
-            r.node(SET, 9, 0, |r| {
-                r.node(TWO, 0, 0, |r| {
-                    r.read(9);
-                    r.constant(1);
-                });
-            });
+            r.node(SET, 9, 0, |r| r.two(0, |r| r.read(9), |r| r.constant(1)));
             r.leaf(AWAIT, 8, 0);
         });
     });
@@ -77,7 +69,7 @@ fn every_place_and_every_byte_of_the_first_record() {
     };
     for place in 0..=u16::MAX {
         let mut block = fine.clone();
-        compare::block::put_place(&mut block, 1 + usize::from(place % 3), place);
+        put_place(&mut block, 1 + usize::from(place % 3), place);
         check(block, format!("place {place}"));
     }
     for (at, value) in (0..32).flat_map(|at| (0..=255).map(move |value| (at, value))) {
@@ -102,7 +94,7 @@ fn every_byte_of_a_table() {
 #[test]
 fn every_length() {
     let mut random = Random::new(3);
-    let style = Style { records: 12, procedures: 2, deepest: 16, nesting: 40, wide: 0, spawns: 20 };
+    let style = Style { records: 12, procedures: 2, deepest: 16, nesting: 40, wide: 0, spawns: 20, zeros: 100 };
     let recipe = random_recipe(&mut random, &style);
     let mut coverage = Coverage::default();
     for length in 0..=recipe.table.len() + 16 {
@@ -186,4 +178,46 @@ fn nested_record(ifs: usize, kind: u8, name: u8, value: i32) -> Vec<u8> {
     let mut recipe = Recipe::new();
     recipe.procedure(|r| nest(r, ifs, &|r| add(r, kind, name, value)));
     recipe.table
+}
+
+/// An expression of one operator around a quotient by the parameter: `other` is the second operand of the operators 0
+/// to 7, the first of 8 to 15; 16 and 17 are those of kind 12.
+fn around_quotient(r: &mut Recipe, shape: u8, other: i32) {
+    let quotient = |r: &mut Recipe| r.two(QUOTIENT, |r| r.constant(5), |r| r.read(64));
+    match shape {
+        0..8 => r.two(shape, quotient, |r| r.constant(other)),
+        8..16 => r.two(shape - 8, |r| r.constant(other), quotient),
+        _ => r.node(ONE, shape - 16, 0, quotient),
+    }
+}
+
+/// Each statement with an expression, of tasks whose parameter, the divisor, is 0 or not; each at the limits of the
+/// live tasks, the numbers issued, the budget and the log.
+#[test]
+fn every_statement_over_a_quotient() {
+    let mut random = Random::new(4);
+    let mut coverage = Coverage::default();
+    let statements = [(SET, 0), (SET, 8), (SET, 64), (IF, 0), (WHILE, 0), (SPAWN, 8), (SPAWN, 64), (GUARD, 0)];
+    for ((kind, name), shape) in statements.into_iter().flat_map(|s| (0..18).map(move |shape| (s, shape))) {
+        let mut recipe = Recipe::new();
+        let other = random.pick(&[-1, 0, 1, 7]);
+        recipe.procedure(|r| {
+            r.node(kind, name, 0, |r| around_quotient(r, shape, other));
+            r.leaf(SUSPEND, 0, 0);
+        });
+        for (live, issued) in [(1, 1), (31, 40), (32, 40), (1, 65_535), (32, 65_535)] {
+            for (budget, length) in [(0, 0), (0, 8), (1, 0), (1, 7), (1, 8), (9, 0), (9, 8), (9, 99)] {
+                let active = random.percent(70);
+                let mut block = block_of(&mut random, &recipe, issued, live, active);
+                let divisor = random.pick(&[0, 0, 1, -5]);
+                put_place(&mut block, 1, 1);
+                block[12..16].copy_from_slice(&i32::to_le_bytes(divisor));
+                let call = Call { budget, log: random.bytes(length) };
+                let case = Case { table: recipe.table.clone(), block, fresh: false, calls: vec![call; 2] };
+                coverage.check(&case, format_args!("kind {kind}, shape {shape}, {live} live, {issued} issued"));
+            }
+        }
+    }
+    assert!((3..=6).all(|kind| coverage.lacking[&kind] > 100), "{coverage}");
+    assert!((1..=5).all(|number| coverage.runs[&number] > 50), "{coverage}");
 }

@@ -52,6 +52,7 @@ fn ending(number: u32) -> &'static str {
         2 => "stuck",
         3 => "tasks",
         4 => "spent",
-        _ => "logfull",
+        5 => "logfull",
+        _ => "novalue",
     }
 }

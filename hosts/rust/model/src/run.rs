@@ -42,8 +42,16 @@ pub fn run(table: &[u8], state: &mut [u8], budget: u32, log: &mut [u8]) -> Answe
             let mut log = Log::new(log);
             let (stop, left) = go(&recipe, &mut current, budget, &mut log);
             current.write(state);
-            Answer { number: stop as u32, steps: budget - left, records: log.records(), place: 0 }
+            Answer { number: stop as u32, steps: budget - left, records: log.records(), place: place(stop, &current) }
         }
+    }
+}
+
+/// The place of a stop: of 24 "the statement's record", where the active task stands; of others none is named.
+fn place(stop: Stop, state: &State) -> u32 {
+    match stop {
+        Stop::NoValue => state.tasks.first().place.into(),
+        _ => 0,
     }
 }
 
@@ -54,7 +62,8 @@ fn read(table: &[u8], block: &[u8]) -> Result<(Recipe, State), Fault> {
     Ok((recipe, state))
 }
 
-/// "Before each step 0, 2, 1, 3, 4, 5 are tried in this order." Gives the stop, and the steps that are left.
+/// Before each step 0, 2, 1, 24, 3, 4, 5 are tried in this order: 24 "after 1 and before 3". Gives the stop, and the
+/// steps that are left.
 fn go(recipe: &Recipe, state: &mut State, mut left: u32, log: &mut Log) -> (Stop, u32) {
     loop {
         let done =

@@ -15,6 +15,9 @@ pub enum Stop {
     Tasks = 3,
     Spent = 4,
     LogFull = 5,
+    /// "24, a stop like 3 and no refusal, when the expression of the next set, test or spawn has no value" (request 2.2
+    /// of document 02). The task stands at the statement.
+    NoValue = 24,
 }
 
 /// Whether a burst goes on after a step, or the task gave way, waits or ended.
@@ -31,10 +34,16 @@ impl State {
         Context { nodes: recipe.nodes(), variables: &self.variables, parameter: task.parameter }
     }
 
-    /// The value of a statement's expression, which stands right after the statement.
+    /// The value of a statement's expression, which stands right after the statement, if it has one.
     #[inline]
-    fn argument(&self, recipe: &Recipe, task: &Task) -> i32 {
+    fn value(&self, recipe: &Recipe, task: &Task) -> Option<i32> {
         self.context(recipe, task).value(usize::from(task.place) + 1)
+    }
+
+    /// The value that a set, a test or a spawn needs: without one "the step .. is not done".
+    #[inline]
+    fn needed_value(&self, recipe: &Recipe, task: &Task) -> Result<i32, Stop> {
+        self.value(recipe, task).ok_or(Stop::NoValue)
     }
 
     /// "Names 0–63 are shared variables .. Name 64 is the task's own parameter."
@@ -47,12 +56,12 @@ impl State {
     }
 
     /// Not "it waits if its next statement is an await and the variable's value now is not a done number". A task at a
-    /// guard "passes only if the expression is true then".
+    /// guard "passes only if the expression is true then", and one "without a value counts as untrue".
     #[inline]
     fn is_ready(&self, recipe: &Recipe, task: &Task) -> bool {
         match recipe.at(task.place) {
             Node::Await { name, .. } => self.is_done(self.context(recipe, task).read(name)),
-            Node::Guard { .. } => self.argument(recipe, task) != 0,
+            Node::Guard { .. } => self.value(recipe, task).is_some_and(|value| value != 0),
             _ => true,
         }
     }
@@ -72,24 +81,24 @@ impl State {
         (1..self.tasks.live()).find(ready).ok_or(Stop::Stuck)
     }
 
-    /// "With a task active, one step is": the row for the node that the task stands at. The stops 3, 4 and 5 are tried
-    /// where they can come; a skip, a test and a set of names 8 to 64 write no record.
+    /// "With a task active, one step is": the row for the node that the task stands at. The stops 24, 3, 4 and 5 are
+    /// tried where they can come, in this order; a skip, a test and a set of names 8 to 64 write no record.
     #[inline]
     pub fn act(&mut self, recipe: &Recipe, task: &mut Task, log: &mut Log) -> Result<Burst, Stop> {
         match recipe.at(task.place) {
             Node::Skip { next } => task.place = next,
             Node::Set { name, next } => {
-                let value = self.argument(recipe, task);
+                let value = self.needed_value(recipe, task)?;
                 self.set(task, name, value);
                 task.place = next;
             }
             Node::Valve { name, next } => {
-                let value = self.argument(recipe, task);
+                let value = self.needed_value(recipe, task)?;
                 log.write(task.number, Event::Valve(name, value))?;
                 self.set(task, name, value);
                 task.place = next;
             }
-            Node::Test { yes, no } => task.place = if self.argument(recipe, task) != 0 { yes } else { no },
+            Node::Test { yes, no } => task.place = if self.needed_value(recipe, task)? != 0 { yes } else { no },
             Node::Spawn { name, procedure, next } => {
                 self.spawn(recipe, task, name, procedure, log)?;
                 task.place = next;
@@ -117,12 +126,12 @@ impl State {
     /// "The argument is worked out, the next number goes into the variable, the new task joins the back."
     #[inline]
     fn spawn(&mut self, recipe: &Recipe, task: &mut Task, name: u8, procedure: u8, log: &mut Log) -> Result<(), Stop> {
+        let parameter = self.needed_value(recipe, task)?;
         if self.tasks.live() == TASKS {
             return Err(Stop::Tasks);
         }
         let number = self.issued.checked_add(1).ok_or(Stop::Spent)?;
         log.write(task.number, Event::Spawned(number))?;
-        let parameter = self.argument(recipe, task);
         self.issued = number;
         self.set(task, name, i32::from(number));
         self.tasks.join(Task { number, place: recipe.entry(procedure), parameter });

@@ -1,4 +1,5 @@
-//! The rows "From the trial press", rows for guards, and the readings that look natural and are wrong.
+//! The rows "From the trial press", rows for guards and for zero divisors, and the readings that look natural and are
+//! wrong.
 
 use recipe_model::{print, run, start, Answer, Started};
 
@@ -23,18 +24,30 @@ fn fresh(table: &[u8]) -> Vec<u8> {
     state
 }
 
-/// A run from a fresh state: number, steps, and the log.
-fn trial(rows: &[Row], budget: u32) -> (u32, u32, Vec<Line>) {
-    let table = table(rows);
-    let mut state = fresh(&table);
+/// A run from a state: what it gives, and the log.
+fn run_from(table: &[u8], state: &mut [u8], budget: u32) -> (Answer, Vec<Line>) {
     let mut log = vec![0; 32_768];
-    let Answer { number, steps, records, place } = run(&table, &mut state, budget, &mut log);
-    assert_eq!(place, 0);
-    let lines = log.as_chunks().0[..records as usize].iter();
+    let answer = run(table, state, budget, &mut log);
+    let lines = log.as_chunks().0[..answer.records as usize].iter();
     let lines = lines.map(|&[kind, valve, t0, t1, v0, v1, v2, v3]| {
         (kind, u16::from_le_bytes([t0, t1]), valve, i32::from_le_bytes([v0, v1, v2, v3]))
     });
-    (number, steps, lines.collect())
+    (answer, lines.collect())
+}
+
+/// A run from a fresh state that names no record: number, steps, and the log.
+fn trial(rows: &[Row], budget: u32) -> (u32, u32, Vec<Line>) {
+    let table = table(rows);
+    let (Answer { number, steps, place, .. }, lines) = run_from(&table, &mut fresh(&table), budget);
+    assert_eq!(place, 0);
+    (number, steps, lines)
+}
+
+/// How a run from a fresh state stops: number, steps and place.
+fn stop(rows: &[Row]) -> (u32, u32, u32) {
+    let table = table(rows);
+    let (Answer { number, steps, place, .. }, _) = run_from(&table, &mut fresh(&table), 10_000);
+    (number, steps, place)
 }
 
 fn ending(rows: &[Row]) -> (u32, u32) {
@@ -238,6 +251,19 @@ fn a_guard_that_is_true_when_reached_waits_too() {
     assert_eq!(trial(&rows, 100), (0, 4, lines));
 }
 
+/// Main reaches its guard and is turned once, as task 2 gives way; it passes when task 2 has ended.
+const TURNED_ONCE: [Line; 9] = [
+    (1, 1, 0, 2),
+    (4, 1, 0, 0),
+    (2, 2, 0, 0),
+    (3, 2, 0, 0),
+    (5, 1, 0, 0),
+    (2, 2, 0, 0),
+    (6, 2, 0, 0),
+    (2, 1, 0, 0),
+    (6, 1, 0, 0),
+];
+
 #[test]
 fn a_guard_is_tested_at_each_try() {
     // Main reaches its guard with variable 8 true; task 2 sets it to 0, gives way and sets it to 1 again.
@@ -245,18 +271,7 @@ fn a_guard_is_tested_at_each_try() {
     let spawn_and_guard = [(6, 9, 1, 1), (9, 0, 0, 0), (13, 0, 1, 0), (10, 8, 0, 0)];
     let main = [&[(1, 0, 6, 0)], &set(1)[..], &spawn_and_guard].concat();
     let child = [&[(1, 0, 5, 0)], &set(0)[..], &[(7, 0, 0, 0)], &set(1)].concat();
-    let lines = vec![
-        (1, 1, 0, 2),
-        (4, 1, 0, 0),
-        (2, 2, 0, 0),
-        (3, 2, 0, 0),
-        (5, 1, 0, 0),
-        (2, 2, 0, 0),
-        (6, 2, 0, 0),
-        (2, 1, 0, 0),
-        (6, 1, 0, 0),
-    ];
-    assert_eq!(trial(&[main, child].concat(), 100), (0, 12, lines));
+    assert_eq!(trial(&[main, child].concat(), 100), (0, 12, TURNED_ONCE.to_vec()));
 }
 
 #[test]
@@ -324,6 +339,114 @@ fn an_await_and_a_guard_of_each_others_making() {
     ];
     assert_eq!(trial(&before, 100), (0, 11, lines));
     assert_eq!(ending(&after), (2, 5));
+}
+
+/// 5 by variable 8, which is 0 in a fresh state.
+const QUOTIENT: [Row; 3] = [(11, 3, 2, 0), (9, 0, 0, 5), (10, 8, 0, 0)];
+
+/// A record that encloses parts.
+fn around(kind: u8, name: u8, value: i32, parts: &[&[Row]]) -> Vec<Row> {
+    let inner = parts.concat();
+    [&[(kind, name, inner.len() as u16, value)], &inner[..]].concat()
+}
+
+/// Main of these statements.
+fn main_of(statements: &[&[Row]]) -> Vec<Row> {
+    around(1, 0, 0, statements)
+}
+
+#[test]
+fn a_zero_divisor_stops_each_statement_that_needs_its_value() {
+    // Behind a step that is done, so that the steps and the place are not those of a refusal.
+    let statements = [
+        around(3, 0, 0, &[&QUOTIENT]),
+        around(3, 9, 0, &[&QUOTIENT]),
+        around(3, 64, 0, &[&QUOTIENT]),
+        around(4, 0, 0, &[&QUOTIENT, &[(2, 0, 0, 0)]]),
+        around(5, 0, 0, &[&QUOTIENT]),
+        around(6, 9, 0, &[&QUOTIENT]),
+    ];
+    for statement in statements {
+        assert_eq!(stop(&main_of(&[&statement])), (24, 0, 1), "{statement:?}");
+        assert_eq!(stop(&main_of(&[&[(2, 0, 0, 0)], &statement])), (24, 1, 2), "{statement:?}");
+    }
+    // The trial row 5 by 0.
+    assert_eq!(stop(&[(1, 0, 4, 0), (3, 0, 3, 0), (11, 3, 2, 0), (9, 0, 0, 5), (9, 0, 0, 0)]), (24, 0, 1));
+}
+
+#[test]
+fn both_operands_are_always_worked_out() {
+    for (operator, other) in (0..8).flat_map(|operator| [-1, 0, 1].map(|other| (operator, other))) {
+        let other = [(9, 0, 0, other)];
+        for parts in [[&other[..], &QUOTIENT], [&QUOTIENT, &other]] {
+            let set = around(3, 0, 0, &[&around(11, operator, 0, &parts)]);
+            assert_eq!(stop(&main_of(&[&set])), (24, 0, 1), "{operator} {other:?}");
+        }
+    }
+    for operator in 0..2 {
+        let set = around(3, 0, 0, &[&around(12, operator, 0, &[&QUOTIENT])]);
+        assert_eq!(stop(&main_of(&[&set])), (24, 0, 1), "{operator}");
+    }
+}
+
+#[test]
+fn a_missing_value_is_told_after_1_and_before_3_4_and_5() {
+    let valve = table(&main_of(&[&around(3, 0, 0, &[&QUOTIENT])]));
+    let spawn = table(&main_of(&[&around(6, 9, 0, &[&QUOTIENT])]));
+    let full = |issued: u16, live: u16| {
+        let mut state = vec![0; 520];
+        state[..2].copy_from_slice(&issued.to_le_bytes());
+        (state[2], state[3]) = (live as u8, 1);
+        for i in 0..live {
+            let at = 8 * usize::from(i + 1);
+            state[at..at + 2].copy_from_slice(&(issued - i).to_le_bytes());
+            state[at + 2] = 1;
+        }
+        state
+    };
+    for table in [valve, spawn] {
+        for (issued, live) in [(1, 1), (40, 32), (65_535, 1), (65_535, 32)] {
+            for (budget, number, place) in [(0, 1, 0), (1, 24, 1), (u32::MAX, 24, 1)] {
+                let before = full(issued, live);
+                let mut state = before.clone();
+                let answer = run(&table, &mut state, budget, &mut []);
+                assert_eq!(answer, Answer { number, steps: 0, records: 0, place }, "{issued} {live} {budget}");
+                assert_eq!(state, before);
+            }
+        }
+    }
+}
+
+#[test]
+fn a_run_that_a_zero_divisor_stopped_goes_on_with_another_divisor() {
+    let table = table(&main_of(&[&around(3, 7, 0, &[&[(9, 0, 0, 4)]]), &around(3, 0, 0, &[&QUOTIENT])]));
+    let mut state = fresh(&table);
+    let stopped = |steps, records| Answer { number: 24, steps, records, place: 3 };
+    assert_eq!(run_from(&table, &mut state, 100), (stopped(1, 1), vec![(7, 1, 7, 4)]));
+    let before = state.clone();
+    assert_eq!(run_from(&table, &mut state, 100), (stopped(0, 0), vec![]));
+    assert_eq!(run_from(&table, &mut state, 0).0.number, 1);
+    assert_eq!(state, before);
+    state[264 + 4 * 8] = 2;
+    let finished = Answer { number: 0, steps: 2, records: 2, place: 0 };
+    assert_eq!(run_from(&table, &mut state, 100), (finished, vec![(7, 1, 0, 2), (6, 1, 0, 0)]));
+}
+
+#[test]
+fn a_guard_without_a_value_is_untrue() {
+    let guard = around(13, 0, 0, &[&QUOTIENT]);
+    assert_eq!(trial(&main_of(&[&guard]), 100), (2, 1, vec![(4, 1, 0, 0)]));
+    // Task 2 gives way, then sets the divisor; it ends before main is tried again.
+    let main = main_of(&[&around(6, 9, 1, &[&[(9, 0, 0, 0)]]), &guard]);
+    let child = around(1, 0, 0, &[&[(7, 0, 0, 0)], &around(3, 8, 0, &[&[(9, 0, 0, 2)]])]);
+    assert_eq!(trial(&[main, child].concat(), 100), (0, 10, TURNED_ONCE.to_vec()));
+}
+
+#[test]
+fn a_missing_value_prints() {
+    let valve = |value: &[Row]| around(3, 1, 0, &[value]);
+    let rows = main_of(&[&valve(&[(9, 0, 0, 6)]), &[(2, 0, 0, 0)], &valve(&QUOTIENT)]);
+    assert_eq!(print(&table(&rows)), "valve 1 1 6\nnovalue 2\n");
 }
 
 /// Calls with a budget and a log, until so many steps are made: the last state and the logs joined.

@@ -3,7 +3,7 @@
 use recipe_runner::{Refusal, State};
 
 use crate::source::{Fault, Position};
-use crate::table::{encode, Placed};
+use crate::table::{encode, Placed, LACKING};
 use crate::{raw, readable};
 
 /// The most bytes of a text; the longest table needs far fewer.
@@ -33,23 +33,33 @@ fn end(text: &str) -> Position {
 
 /// The table of a text in either notation.
 pub fn assemble(text: &str) -> Result<Vec<u8>, Fault> {
+    placed(text).map(|records| encode(&records))
+}
+
+/// The records of that table, each with where the text has it.
+pub fn placed(text: &str) -> Result<Vec<Placed>, Fault> {
     let records = if raw::is_raw(text) { raw::parse(text)? } else { readable::parse(text)? };
-    let table = encode(&records);
-    match State::start(&table) {
-        Ok(_) => Ok(table),
+    match State::start(&encode(&records)) {
+        Ok(_) => Ok(records),
         Err(refusal) => Err(located(refusal, &records)),
     }
 }
 
 /// The library's refusal at the text of the record at fault.
 fn located(refusal: Refusal, records: &[Placed]) -> Fault {
-    let Refusal { number, place } = refusal;
-    let words = refusal.words();
+    said_of(refusal.place, records, &format!("refused {}", refusal.number), refusal.words())
+}
+
+/// The ending "novalue" at the text of the statement.
+pub fn lacking(place: u32, records: &[Placed]) -> Fault {
+    said_of(place, records, "novalue", LACKING)
+}
+
+/// What the library says of a record, in its word and in ours, at the record's text.
+fn said_of(place: u32, records: &[Placed], said: &str, words: &str) -> Fault {
     match records.get(place as usize) {
-        Some(Placed { record, at }) => {
-            Fault::new(*at, format!("{words} (refused {number} at record {place}, {record})"))
-        }
-        None => Fault::new(Position::START, format!("{words} (refused {number})")),
+        Some(Placed { record, at }) => Fault::new(*at, format!("{words} ({said} at record {place}, {record})")),
+        None => Fault::new(Position::START, format!("{words} ({said})")),
     }
 }
 

@@ -9,12 +9,12 @@ use recipe_runner::{records, Ending, Ran, Record, Refusal, State, RECORD, STATE}
 use crate::args::{Given, Options};
 use crate::course::Course;
 use crate::failure::{Failure, UNFINISHED};
-use crate::files::{self, Loaded};
+use crate::files::{self, Loaded, Source};
 use crate::picture::{self, Heading};
-use crate::table::{decode, depths, describe, kind};
+use crate::table::{decode, depths, describe, describe_lacking, kind};
 use crate::timeline::Timeline;
 use crate::words::{counted, quoted};
-use crate::{help, listing, raw};
+use crate::{asm, help, listing, raw};
 
 /// The budget of a run, unless given.
 const BUDGET: u32 = 10_000;
@@ -74,13 +74,13 @@ fn print(text: &str) -> Result<u8, Failure> {
 fn asm(given: &Given) -> Result<u8, Failure> {
     let (input, output) = (given.input(), given.output());
     keep_input(&ASM, input.as_deref(), output.as_deref())?;
-    let table = files::assemble(input.as_deref())?;
+    let Loaded { table, .. } = files::assemble(input.as_deref())?;
     files::write(output.as_deref(), &table)?;
     Ok(0)
 }
 
 fn dis(given: &Given) -> Result<u8, Failure> {
-    let Loaded { name, table } = files::load(given.input().as_deref())?;
+    let Loaded { name, table, .. } = files::load(given.input().as_deref())?;
     let listed = listing::list(&table);
     match (&listed, given.flag("--raw")) {
         (_, true) => files::write(None, raw::list(&table).as_bytes())?,
@@ -94,7 +94,7 @@ fn dis(given: &Given) -> Result<u8, Failure> {
 }
 
 fn check(given: &Given) -> Result<u8, Failure> {
-    let Loaded { name, table } = files::load(given.input().as_deref())?;
+    let Loaded { name, table, .. } = files::load(given.input().as_deref())?;
     State::start(&table).map_err(|refusal| refused(&name, &table, refusal))?;
     let records = decode(&table);
     let procedures = records.iter().filter(|record| record.kind == kind::PROCEDURE).count();
@@ -128,23 +128,35 @@ fn run(given: &Given) -> Result<u8, Failure> {
     let mut log = log(RUN.number(given, "--log", LONGEST_LOG, LOG)?)?;
     let (resume, save) = (RUN.state(given, "--resume")?, RUN.state(given, "--save")?);
     keep_input(&RUN, given.input().as_deref(), save)?;
-    let Loaded { name, table } = files::load(given.input().as_deref())?;
+    let loaded = files::load(given.input().as_deref())?;
     let block = resume.map(|path| files::read(Some(path), STATE)).transpose()?;
-    match call(&table, block.as_deref(), budget, &mut log) {
+    match call(&loaded.table, block.as_deref(), budget, &mut log) {
         Ok((state, ran)) => {
             // Shown before it is saved: a call whose records were lost can then be made again.
             let shown = if given.flag("--quiet") { 0 } else { ran.records };
             show(records(&log, shown), &format!("{} {}", ran.ending, ran.steps))
                 .map_err(|error| unsaved(&error, save))?;
             save.map_or(Ok(()), |path| files::write(Some(path), state.as_bytes()))?;
+            tell_lacking(&loaded, ran.ending);
             let strict = given.flag("--strict") && ran.ending != Ending::Finished;
             Ok(if strict { UNFINISHED } else { 0 })
         }
         Err(refusal) => {
             show([].into_iter(), &refusal.to_string()).map_err(|error| files::printed(&error))?;
-            Err(refused(&name, &table, refusal))
+            Err(refused(&loaded.name, &loaded.table, refusal))
         }
     }
+}
+
+/// Tells on standard error which statement has no value: with its line where the text is at hand, else by its record.
+fn tell_lacking(Loaded { name, table, source }: &Loaded, ending: Ending) {
+    let Ending::Novalue { place } = ending else { return };
+    let told = match source {
+        Some(Source { text, records }) => asm::lacking(place, records).show(name, text),
+        None => format!("{name}: {}", describe_lacking(table, place)),
+    };
+    // The ending is printed; nothing is left to do where standard error is closed.
+    let _ = writeln!(io::stderr(), "{told}");
 }
 
 /// One run call, from a fresh state or a saved one. As in the library the table is looked at first.
@@ -178,7 +190,7 @@ fn timeline(given: &Given) -> Result<u8, Failure> {
     let mut log = log(TIMELINE.number(given, "--log", LONGEST_TIMELINE, LOG)?)?;
     let (input, output) = (given.input(), given.output());
     keep_input(&TIMELINE, input.as_deref(), output.as_deref())?;
-    let Loaded { name, table } = files::load(input.as_deref())?;
+    let Loaded { name, table, .. } = files::load(input.as_deref())?;
     let course = Course::of(&table, budget, &mut log).map_err(|refusal| refused(&name, &table, refusal))?;
     let title = input.as_deref().and_then(Path::file_name).map_or(name, |base| base.to_string_lossy().into_owned());
     let heading = Heading { name: &title, ending: course.ending, steps: course.steps, budget };

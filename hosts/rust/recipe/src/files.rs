@@ -9,6 +9,7 @@ use recipe_runner::TABLE;
 
 use crate::asm;
 use crate::failure::{Failure, USAGE};
+use crate::table::{encode, Placed};
 
 /// How many names of temporary files are tried.
 const ATTEMPTS: u32 = 16;
@@ -17,6 +18,14 @@ const ATTEMPTS: u32 = 16;
 pub struct Loaded {
     pub name: String,
     pub table: Vec<u8>,
+    /// The text that it was assembled from, if it was.
+    pub source: Option<Source>,
+}
+
+/// A text and its table's records.
+pub struct Source {
+    pub text: String,
+    pub records: Vec<Placed>,
 }
 
 /// What a file is called in messages.
@@ -39,18 +48,23 @@ pub fn read(file: Option<&Path>, limit: usize) -> Result<Vec<u8>, Failure> {
 }
 
 /// Reads a text and assembles it.
-pub fn assemble(file: Option<&Path>) -> Result<Vec<u8>, Failure> {
+pub fn assemble(file: Option<&Path>) -> Result<Loaded, Failure> {
     let bytes = read(file, asm::TEXT)?;
     let text = asm::text(&bytes);
     let shown_text = text.as_ref().copied().unwrap_or_default();
-    text.clone().and_then(asm::assemble).map_err(|fault| Failure::fault(fault.show(&shown(file), shown_text)))
+    let records = text.clone().and_then(asm::placed);
+    let records = records.map_err(|fault| Failure::fault(fault.show(&shown(file), shown_text)))?;
+    let source = Source { text: shown_text.to_string(), records };
+    Ok(Loaded { name: shown(file), table: encode(&source.records), source: Some(source) })
 }
 
 /// A table, or text whose name ends in `.recipe`, assembled.
 pub fn load(file: Option<&Path>) -> Result<Loaded, Failure> {
     let is_text = file.is_some_and(|path| path.as_os_str().to_string_lossy().ends_with(".recipe"));
-    let table = if is_text { assemble(file)? } else { read(file, TABLE)? };
-    Ok(Loaded { name: shown(file), table })
+    if is_text {
+        return assemble(file);
+    }
+    Ok(Loaded { name: shown(file), table: read(file, TABLE)?, source: None })
 }
 
 /// Writes to a file, or to standard output.

@@ -70,6 +70,8 @@ The text is in one of two notations. A \"#\" begins a comment in both.
   Expressions, from the tightest: -x, * /, + -, < ==, not, and, or, with
   parentheses. Constants are -2147483648 to 2147483647; the minus sign of
   a constant stands directly before it, and -(5) is the negation of 5.
+  x / 0 has no value, nor has an expression that holds it: a set, if, while or
+  spawn of it stops the run, a guard of it is untrue.
 
   valve0 to valve7 are the variables 0 to 7. Other variables get numbers from
   8 up in the order of their first use, at most 56 of them; \"variable NAME
@@ -103,7 +105,8 @@ usage: recipe run [FILE] [OPTIONS]
 Runs a table, or text whose name ends in \".recipe\". Prints a line for each log
 record (kind, task, valve, value), then the ending and the steps; or \"refused\"
 with number and place (exit status 1). The value of \"waits\" and \"turned\" is the
-number awaited, 0 at a guard.
+number awaited, 0 at a guard. Of the ending \"novalue\" the statement is told on
+standard error: its line, or its record where the file is a table.
 
   --budget N        the most steps, 0 to 4294967295 (10000)
   --log RECORDS     the log's room, 0 to 16777216 records (4096)
@@ -118,6 +121,7 @@ endings: finished  no task is left
          tasks     the next step is a spawn, and 32 tasks are live
          spent     the next step is a spawn, and 65535 numbers are issued
          logfull   the next step writes a record, and the log is full
+         novalue   the next set, test or spawn divides by 0: it is not done
 ";
 
 const TIMELINE: &str = "\
@@ -125,7 +129,8 @@ usage: recipe timeline [FILE] [OPTIONS]
 
 Runs a table, or text whose name ends in \".recipe\", and draws what each task
 does as an SVG picture: a lane for each task, time from left to right in log
-records. A wait is drawn with the number awaited, or as one at a guard.
+records. A wait is drawn with the number awaited, or as one at a guard. A sign
+marks the task that a missing value stopped.
 
   --budget N        the most steps, 0 to 4294967295 (10000)
   --log RECORDS     the log's room, 0 to 65536 records (4096)

@@ -4,7 +4,7 @@ use recipe_runner::Ending;
 
 use crate::block::Wait;
 use crate::svg::{text_width, Svg};
-use crate::timeline::{Bar, Doing, Lane, Setting, Spawn, Timeline};
+use crate::timeline::{Bar, Doing, Lacking, Lane, Setting, Spawn, Timeline};
 use crate::words::counted;
 
 mod legend;
@@ -23,6 +23,8 @@ const CAP: f64 = 10.0;
 /// The sizes of a turn's circle and a valve's diamond, from the middle; they are smaller where records are narrow.
 const TURN: f64 = 3.2;
 const VALVE: f64 = 4.5;
+/// Half the height of the sign where a missing value stopped the run.
+const STOP: f64 = 8.0;
 /// The height of a flag with a valve's setting, and of the row it stands in.
 const FLAG: f64 = 13.0;
 const FLAG_ROW: f64 = 15.0;
@@ -55,6 +57,7 @@ text { font-family: 'DejaVu Sans', Verdana, Arial, sans-serif; font-size: 12px; 
 .valve { fill: #a3174a; stroke: #fff; stroke-width: 1 }
 .pole { stroke: #a3174a; stroke-width: 1 }
 .flag { fill: #fdf1f5; stroke: #a3174a; stroke-width: 0.8 }
+.stop { fill: #c62828; stroke: #fff; stroke-width: 1.2 }
 ";
 
 const DEFINITIONS: &str = "<pattern id=\"hatch\" patternUnits=\"userSpaceOnUse\" width=\"5\" height=\"5\" \
@@ -90,6 +93,7 @@ impl Heading<'_> {
             Ending::Tasks => "The next step is a spawn, and 32 tasks are live.",
             Ending::Spent => "The next step is a spawn, and all numbers are issued.",
             Ending::Logfull => "The next step writes a record, and the log is full.",
+            Ending::Novalue { place } => &format!("The statement at record {place} divides by 0."),
         };
         format!("{tasks}, {records}, budget {}. {why}", self.budget)
     }
@@ -112,6 +116,9 @@ pub fn draw(timeline: &Timeline, heading: &Heading) -> String {
     }
     for row in &plan.rows {
         marks(&mut svg, &plan, row);
+    }
+    if let Some(lacking) = &timeline.lacking {
+        stop(&mut svg, &plan, lacking);
     }
     axis(&mut svg, &plan);
     svg.document((plan.width, plan.height), &heading.title(), STYLE, DEFINITIONS)
@@ -208,6 +215,14 @@ fn marks(svg: &mut Svg, plan: &Plan, row: &Row) {
     }
 }
 
+/// At the run's end, in the lane of the task whose statement has no value.
+fn stop(svg: &mut Svg, plan: &Plan, Lacking { task, place }: &Lacking) {
+    if let Some(middle) = plan.middle(*task) {
+        let tip = format!("task {task} stopped: record {place} has no value");
+        stop_at(svg, plan.x(plan.records as f64), middle, &tip);
+    }
+}
+
 /// Why a task is turned.
 fn why(wait: Wait) -> String {
     match wait {
@@ -248,6 +263,15 @@ fn flag_at(svg: &mut Svg, x: f64, top: f64, text: &str) {
 
 fn diamond_at(svg: &mut Svg, x: f64, y: f64, half: f64, tip: &str) {
     svg.polygon("valve", &[(x, y - half), (x + half, y), (x, y + half), (x - half, y)], tip);
+}
+
+/// A stop sign, with eight corners.
+fn stop_at(svg: &mut Svg, x: f64, y: f64, tip: &str) {
+    let (long, short) = (STOP, 0.414 * STOP);
+    let right = [(short, -long), (long, -short), (long, short), (short, long)];
+    let left = right.map(|(dx, dy)| (-dx, -dy));
+    let corners: Vec<(f64, f64)> = right.iter().chain(&left).map(|(dx, dy)| (x + dx, y + dy)).collect();
+    svg.polygon("stop", &corners, tip);
 }
 
 fn cap_at(svg: &mut Svg, x: f64, y: f64, tip: &str) {

@@ -127,16 +127,28 @@ pub fn depths(records: &[Record]) -> Vec<usize> {
     depths
 }
 
+/// Why a statement stops a run with "novalue".
+pub const LACKING: &str = "the expression divides by 0 and has no value";
+
 /// A table's refusal in words, with the record at fault.
 pub fn describe(table: &[u8], refusal: Refusal) -> String {
-    let Refusal { number, place } = refusal;
-    match decode(table).get(place as usize) {
-        Some(record) if (12..=17).contains(&number) => {
-            format!("{refusal}: record {place}, {record} ({}): {}", record.word(), refusal.words())
-        }
-        _ if number == 22 => format!("{refusal}: state record {place}: {}", refusal.words()),
-        _ => format!("{refusal}: {}", refusal.words()),
+    let words = refusal.words();
+    match refusal.number {
+        12..=17 => format!("{refusal}: {}{words}", described(table, refusal.place)),
+        22 => format!("{refusal}: state record {}: {words}", refusal.place),
+        _ => format!("{refusal}: {words}"),
     }
+}
+
+/// The ending "novalue" in words, with the statement's record.
+pub fn describe_lacking(table: &[u8], place: u32) -> String {
+    format!("novalue: {}{LACKING}", described(table, place))
+}
+
+/// A record of the table at the head of a sentence about it; nothing where there is none.
+fn described(table: &[u8], place: u32) -> String {
+    let record = decode(table).get(place as usize).copied();
+    record.map_or(String::new(), |record| format!("record {place}, {record} ({}): ", record.word()))
 }
 
 #[cfg(test)]

@@ -81,27 +81,45 @@ impl Lane {
     }
 }
 
+/// The task at whose statement a missing value stopped the run, and the statement's record.
+#[derive(Clone, Copy, Debug, PartialEq)]
+pub struct Lacking {
+    pub task: u16,
+    pub place: u32,
+}
+
 #[derive(Clone, Debug, PartialEq)]
 pub struct Timeline {
     /// By task number.
     pub lanes: BTreeMap<u16, Lane>,
     pub spawns: Vec<Spawn>,
     pub records: usize,
+    pub lacking: Option<Lacking>,
 }
 
 impl Timeline {
     pub fn of(course: &Course) -> Timeline {
-        let mut timeline = Timeline { lanes: BTreeMap::new(), spawns: Vec::new(), records: 0 };
+        let mut timeline = Timeline { lanes: BTreeMap::new(), spawns: Vec::new(), records: 0, lacking: None };
         timeline.lane(MAIN).begin(Doing::Burst, 0.0);
         for seen in &course.seen {
             timeline.add(*seen);
             timeline.records += 1;
         }
-        if course.ending == Ending::Stuck {
+        match course.ending {
             // Every queued task waits at what it stands at.
-            course.standing.iter().for_each(|(task, wait)| timeline.lane(*task).is_seen_to_wait(*wait));
+            Ending::Stuck => {
+                course.standing.iter().for_each(|(task, wait)| timeline.lane(*task).is_seen_to_wait(*wait));
+            }
+            Ending::Novalue { place } => timeline.lacking = timeline.active().map(|task| Lacking { task, place }),
+            _ => {}
         }
         timeline
+    }
+
+    /// The task whose burst lasts until the run's end.
+    fn active(&self) -> Option<u16> {
+        let bursts = |lane: &Lane| lane.bars.last().is_some_and(|bar| bar.doing == Doing::Burst && bar.to.is_none());
+        self.lanes.iter().find(|(_, lane)| bursts(lane)).map(|(task, _)| *task)
     }
 
     fn lane(&mut self, task: u16) -> &mut Lane {
@@ -187,6 +205,16 @@ mod tests {
         assert_eq!(stuck.lanes[&4].bars, bar(Doing::Waits(Wait::Await(0)), 2.5));
         let paused = Timeline::of(&course(&log, Ending::Paused, &standing));
         assert_eq!(paused.lanes[&3].bars, bar(Doing::Queued, 1.5));
+    }
+
+    #[test]
+    fn a_missing_value_stops_the_active_task() {
+        let log = [(Kind::Spawned, 1, 0, 2, false), (Kind::Gave, 1, 0, 0, false), (Kind::Taken, 2, 0, 0, false)];
+        for (records, task) in [(0, 1), (1, 1), (3, 2)] {
+            let stopped = course(&log[..records], Ending::Novalue { place: 7 }, &[]);
+            assert_eq!(Timeline::of(&stopped).lacking, Some(Lacking { task, place: 7 }));
+        }
+        assert_eq!(Timeline::of(&course(&log, Ending::Paused, &[])).lacking, None);
     }
 
     #[test]

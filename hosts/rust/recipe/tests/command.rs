@@ -21,6 +21,8 @@ finished 8
 const ROW_A: &str = "procedure main\n  spawn x press 5\n  await x\n  set valve0 1\nprocedure press p\n  set valve1 p\n";
 const STUCK: &str = "procedure main\n  await x\n";
 const AT_GUARD: &str = "procedure main\n  guard x\n";
+/// Divides by a variable that is 0, in the second statement, at record 3.
+const SHARE: &str = "procedure main\n  set valve1 1\n  set valve0 6 / sensors\n";
 const BAD: &str = "procedure main\n  spawn x press 5\n";
 /// A table with a set that encloses nothing.
 const REFUSED: [u8; 16] = [1, 0, 1, 0, 0, 0, 0, 0, 3, 8, 0, 0, 0, 0, 0, 0];
@@ -84,6 +86,54 @@ fn a_guard_passes_once_the_host_has_written_its_variable() {
     fs::write(d.join("state"), state).unwrap();
     let resumed = recipe(&d, &["run", "held.recipe", "--resume", "state"], b"");
     assert_eq!(stdout(&resumed), "taken 1 0 0\nended 1 0 0\nfinished 2\n");
+}
+
+#[test]
+fn a_zero_divisor_is_told_with_its_line_or_its_record() {
+    let d = directory("novalue");
+    fs::write(d.join("share.recipe"), SHARE).unwrap();
+    assert_eq!(status(&recipe(&d, &["asm", "share.recipe", "-o", "share.table"], b"")), 0);
+    let raw = stdout(&recipe(&d, &["dis", "--raw", "share.table"], b""));
+    fs::write(d.join("raw.recipe"), raw).unwrap();
+    let words = "the expression divides by 0 and has no value";
+    let text = |file, line, column: usize, shown: &str| {
+        let mark = " ".repeat(column - 1);
+        format!("{file}:{line}:{column}: {words} (novalue at record 3, 3(0,3,0))\n  {shown}\n  {mark}^\n")
+    };
+    let by_record = format!("novalue: record 3, 3(0,3,0) (set): {words}\n");
+    for (file, told) in [
+        ("share.recipe", text("share.recipe", 3, 3, "  set valve0 6 / sensors")),
+        ("raw.recipe", text("raw.recipe", 4, 5, "    3(0,3,0)")),
+        ("share.table", format!("share.table: {by_record}")),
+        ("-", format!("standard input: {by_record}")),
+    ] {
+        let table = fs::read(d.join("share.table")).unwrap();
+        for (arguments, due, printed) in [
+            (&["run", file][..], 0, "valve 1 1 1\nnovalue 1\n"),
+            (&["run", file, "--strict", "--quiet"], 3, "novalue 1\n"),
+        ] {
+            let ran = recipe(&d, arguments, &table);
+            assert_eq!((status(&ran), &*stdout(&ran), &*stderr(&ran)), (due, printed, &*told), "{arguments:?}");
+        }
+        let paused = recipe(&d, &["run", file, "--budget", "1"], &table);
+        assert_eq!((&*stdout(&paused), &*stderr(&paused)), ("valve 1 1 1\npaused 1\n", ""));
+    }
+}
+
+/// The saved state stops again at the same statement, until a host has written another divisor.
+#[test]
+fn a_zero_divisor_holds_a_saved_state_until_its_variable_is_written() {
+    let d = directory("divisor");
+    fs::write(d.join("share.recipe"), SHARE).unwrap();
+    assert_eq!(stdout(&recipe(&d, &["run", "share.recipe", "--save", "state"], b"")), "valve 1 1 1\nnovalue 1\n");
+    let before = fs::read(d.join("state")).unwrap();
+    let resume = ["run", "share.recipe", "--resume", "state", "--save", "state"];
+    assert_eq!(stdout(&recipe(&d, &resume, b"")), "novalue 0\n");
+    let mut state = fs::read(d.join("state")).unwrap();
+    assert_eq!(state, before);
+    state[264 + 4 * 8] = 2;
+    fs::write(d.join("state"), state).unwrap();
+    assert_eq!(stdout(&recipe(&d, &resume, b"")), "valve 1 0 3\nended 1 0 0\nfinished 2\n");
 }
 
 #[test]

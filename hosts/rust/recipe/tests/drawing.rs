@@ -96,6 +96,20 @@ procedure late
     await nobody
 ";
 
+/// Task 2 divides by a count of sensors that is 0, while main and a task at a guard without a value wait.
+const DIVISOR: &str = "\
+procedure main
+    spawn a hold 0
+    spawn b share 600
+    await b
+procedure hold
+    skip
+    guard 1 / sensors
+procedure share flow
+    set valve1 1
+    set valve0 flow / sensors
+";
+
 fn picture(text: &str, budget: u32) -> (String, Timeline) {
     let course = Course::of(&assemble(text).unwrap(), budget, &mut [0; 8 * 4_096]).unwrap();
     let timeline = Timeline::of(&course);
@@ -170,6 +184,8 @@ fn pictures_are_well_formed_and_texts_apart() {
         (SHORT, 10_000, 32),
         (GUARDS, 10_000, 4),
         (ZERO, 10_000, 3),
+        (DIVISOR, 10_000, 3),
+        ("procedure main\n  set x 1 / 0\n", u32::MAX, 1),
     ] {
         let (document, timeline) = picture(text, budget);
         assert_eq!(timeline.lanes.len(), tasks);
@@ -196,6 +212,25 @@ fn the_picture_tells_what_happened() {
     }
     let (document, _) = picture(MANY, 10_000);
     assert!(document.contains("turned: "));
+}
+
+#[test]
+fn a_missing_value_is_marked() {
+    let (document, _) = picture(DIVISOR, 10_000);
+    for part in [
+        ".recipe: novalue, ",
+        "The statement at record 15 divides by 0.",
+        "task 3 stopped: record 15 has no value",
+        "task 2: waits at a guard",
+        ">v1=1<",
+    ] {
+        assert!(document.contains(part), "{part}");
+    }
+    assert!(!document.contains("sets valve 0"));
+    // The legend has one, too.
+    assert_eq!(document.matches("class=\"stop\"").count(), 2);
+    let (document, _) = picture(DIVISOR, 3);
+    assert_eq!(document.matches("class=\"stop\"").count(), 1);
 }
 
 #[test]

@@ -6,7 +6,7 @@ use std::path::{Path, PathBuf};
 use recipe::asm::assemble;
 use recipe_runner::{Ending, State};
 
-const RECIPES: [(&str, Ending, u32); 9] = [
+const RECIPES: [(&str, Ending, u32); 10] = [
     ("a", Ending::Finished, 8),
     ("b", Ending::Finished, 9),
     ("c", Ending::Stuck, 1),
@@ -16,6 +16,7 @@ const RECIPES: [(&str, Ending, u32); 9] = [
     ("press", Ending::Finished, 8),
     ("deadlock", Ending::Stuck, 9),
     ("guard", Ending::Finished, 22),
+    ("novalue", Ending::Novalue { place: 5 }, 2),
 ];
 
 fn directory() -> PathBuf {

@@ -1,4 +1,4 @@
-//! The document's rows, and one with a guard, in both notations.
+//! The document's rows, one with a guard and one with a zero divisor, in both notations.
 
 mod common;
 
@@ -8,7 +8,7 @@ use recipe_runner::{records, Ending, State};
 
 type Row = (&'static str, &'static str, &'static [(u8, u8, u16, i32)], Ending, u32);
 
-const ROWS: [Row; 8] = [
+const ROWS: [Row; 9] = [
     (
         "1(0,5,0) 6(8,1,1) 9(0,0,5) 8(8,0,0) 3(0,1,0) 9(0,0,1) 1(0,2,0) 3(1,1,0) 10(64,0,0)",
         "procedure main
@@ -71,6 +71,13 @@ procedure press p
         Ending::Finished,
         10,
     ),
+    (
+        "1(0,5,0) 2(0,0,0) 3(0,3,0) 11(3,2,0) 9(0,0,5) 9(0,0,0)",
+        "procedure main\n skip\n set valve0 5 / 0",
+        &[(1, 0, 5, 0), (2, 0, 0, 0), (3, 0, 3, 0), (11, 3, 2, 0), (9, 0, 0, 5), (9, 0, 0, 0)],
+        Ending::Novalue { place: 2 },
+        1,
+    ),
 ];
 
 #[test]
@@ -94,16 +101,22 @@ fn the_tables_run_as_the_document_says() {
 #[test]
 fn values_are_as_the_document_says() {
     for (expression, value) in [
-        ("2147483647 + 1", 2_147_483_647),
-        ("-7 / 2", -3),
-        ("-2147483648 / -1", 2_147_483_647),
-        ("5 / 0", 0),
-        ("2 + 3 * 4 - -(5)", 19),
-        ("not (1 < 2) or 3 == 3 and 7", 1),
+        ("2147483647 + 1", Some(2_147_483_647)),
+        ("-7 / 2", Some(-3)),
+        ("-2147483648 / -1", Some(2_147_483_647)),
+        ("5 / 0", None),
+        ("0 and 1 / 0", None),
+        ("1 or 1 / 0", None),
+        ("-(1 / 0)", None),
+        ("not (1 / 0)", None),
+        ("2 + 3 * 4 - -(5)", Some(19)),
+        ("not (1 < 2) or 3 == 3 and 7", Some(1)),
     ] {
         let table = assemble(&format!("procedure main\n  set valve0 {expression}")).unwrap();
         let mut log = [0; 64];
         let ran = State::start(&table).unwrap().run(&table, 9, &mut log).unwrap();
-        assert_eq!(records(&log, ran.records).next().unwrap().value, value, "{expression}");
+        let ending = if value.is_some() { Ending::Finished } else { Ending::Novalue { place: 1 } };
+        let set = records(&log, ran.records).next().map(|record| record.value);
+        assert_eq!((ran.ending, set), (ending, value), "{expression}");
     }
 }

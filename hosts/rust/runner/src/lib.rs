@@ -84,17 +84,23 @@ pub enum Ending {
     Spent,
     /// The next step writes a log record, and the log is full.
     Logfull,
+    /// The next step is a set, a test or a spawn whose expression has no value: it divides by 0.
+    Novalue {
+        /// The statement's record in the table.
+        place: u32,
+    },
 }
 
 impl Ending {
-    fn from_number(number: u32) -> Option<Ending> {
-        Some(match number {
+    fn of(answer: Answer) -> Option<Ending> {
+        Some(match answer.number {
             0 => Ending::Finished,
             1 => Ending::Paused,
             2 => Ending::Stuck,
             3 => Ending::Tasks,
             4 => Ending::Spent,
             5 => Ending::Logfull,
+            24 => Ending::Novalue { place: answer.place },
             _ => return None,
         })
     }
@@ -109,6 +115,7 @@ impl fmt::Display for Ending {
             Ending::Tasks => "tasks",
             Ending::Spent => "spent",
             Ending::Logfull => "logfull",
+            Ending::Novalue { .. } => "novalue",
         })
     }
 }
@@ -188,7 +195,7 @@ impl State {
     /// Makes steps, as many as the budget at most.
     pub fn run(&mut self, table: &[u8], budget: u32, log: &mut [u8]) -> Result<Ran, Refusal> {
         let a = run(table, &mut self.block, budget, log);
-        match Ending::from_number(a.number) {
+        match Ending::of(a) {
             Some(ending) => Ok(Ran { ending, steps: a.steps, records: a.records }),
             None => Err(Refusal { number: a.number, place: a.place }),
         }
@@ -314,6 +321,34 @@ mod tests {
         block[264 + 4 * 8] = 1;
         let ran = State::from_bytes(&block).unwrap().run(&table, 100, &mut log).unwrap();
         assert_eq!(ran, Ran { ending: Ending::Finished, steps: 2, records: 2 });
+    }
+
+    /// Main sets valve 0 to 6 by variable 8.
+    const SHARE: [[u8; 8]; 5] = [
+        [1, 0, 4, 0, 0, 0, 0, 0],
+        [3, 0, 3, 0, 0, 0, 0, 0],
+        [11, 3, 2, 0, 0, 0, 0, 0],
+        [9, 0, 0, 0, 6, 0, 0, 0],
+        [10, 8, 0, 0, 0, 0, 0, 0],
+    ];
+
+    #[test]
+    fn a_zero_divisor_stops_until_the_variable_is_written() {
+        let table = SHARE.concat();
+        let mut log = [0; 64];
+        let mut state = State::start(&table).unwrap();
+        for (budget, ending) in
+            [(0, Ending::Paused), (1, Ending::Novalue { place: 1 }), (9, Ending::Novalue { place: 1 })]
+        {
+            let ran = state.run(&table, budget, &mut log).unwrap();
+            assert_eq!(ran, Ran { ending, steps: 0, records: 0 });
+            assert_eq!(state, State::start(&table).unwrap());
+        }
+        let mut block = *state.as_bytes();
+        block[264 + 4 * 8] = 3;
+        let ran = State::from_bytes(&block).unwrap().run(&table, 9, &mut log).unwrap();
+        assert_eq!(ran, Ran { ending: Ending::Finished, steps: 2, records: 2 });
+        assert_eq!(records(&log, 1).next().unwrap().to_string(), "valve 1 0 2");
     }
 
     #[test]

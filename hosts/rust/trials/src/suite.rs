@@ -2,6 +2,8 @@
 
 mod blocks;
 
+mod divisors;
+
 mod orders;
 
 mod prints;
@@ -85,6 +87,7 @@ pub fn suite(vectors: &[Vector]) -> Vec<Case> {
     blocks::sweep(&mut suite);
     runs::sweep(&mut suite);
     waits::sweep(&mut suite);
+    divisors::sweep(&mut suite);
     prints::sweep(&mut suite, vectors);
     suite.cases
 }

@@ -73,21 +73,25 @@ fn the_input_spells_the_cases() {
     assert!(rest.is_empty());
 }
 
-/// Every published number but 23, which cannot come, for start and for run; 22 at every record that can be at fault;
-/// every kind of log record; every word that the print program can say but "spent", which 10,000 steps do not reach.
+/// Every published number but 23, which cannot come, for start and for run; 22 at every record that can be at fault; 24
+/// at every kind of statement that needs a value; every kind of log record; every word that the print program can say
+/// but "spent", which 10,000 steps do not reach.
 #[test]
 fn every_answer_occurs() {
     let (mut starts, mut runs, mut records) = (BTreeSet::new(), BTreeSet::new(), BTreeSet::new());
-    let (mut faults, mut words) = (BTreeSet::new(), BTreeSet::new());
+    let (mut faults, mut lacking, mut words) = (BTreeSet::new(), BTreeSet::new(), BTreeSet::new());
     for case in cases() {
         let outcome = case.outcome();
         match case {
             Case::Start { .. } => drop(starts.insert(outcome.numbers[0])),
-            Case::Run { .. } => {
+            Case::Run { table, .. } => {
                 runs.insert(outcome.numbers[0]);
                 records.extend(outcome.buffers[1].chunks(8).take(outcome.numbers[2] as usize).map(|record| record[0]));
-                if outcome.numbers[0] == 22 {
-                    faults.insert(outcome.numbers[3]);
+                let place = outcome.numbers[3];
+                match outcome.numbers[0] {
+                    22 => drop(faults.insert(place)),
+                    24 => drop(lacking.insert(table[8 * place as usize])),
+                    _ => {}
                 }
             }
             Case::RunOn { .. } => {}
@@ -98,10 +102,11 @@ fn every_answer_occurs() {
         }
     }
     assert_eq!(Vec::from_iter(starts), [0, 11, 12, 13, 14, 15, 16, 17, 21]);
-    assert_eq!(Vec::from_iter(runs), [0, 1, 2, 3, 4, 5, 11, 12, 13, 14, 15, 16, 17, 21, 22]);
+    assert_eq!(Vec::from_iter(runs), [0, 1, 2, 3, 4, 5, 11, 12, 13, 14, 15, 16, 17, 21, 22, 24]);
     assert_eq!(Vec::from_iter(records), [1, 2, 3, 4, 5, 6, 7]);
     assert_eq!(Vec::from_iter(faults), Vec::from_iter(0..=32));
-    let endings = ["finished", "logfull", "paused", "refused", "stuck", "tasks"];
+    assert_eq!(Vec::from_iter(lacking), [3, 4, 5, 6]);
+    let endings = ["finished", "logfull", "novalue", "paused", "refused", "stuck", "tasks"];
     let kinds = ["ended", "gave", "spawned", "taken", "turned", "valve", "waits"];
     assert_eq!(words, endings.into_iter().chain(kinds).map(str::to_string).collect());
 }

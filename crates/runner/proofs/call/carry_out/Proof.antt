@@ -35,15 +35,19 @@ drive-requires c κs =
 
 write-requires : tie.Need-write-requires
 write-requires c κs =
-    let o = c .before .before .before .before .before .before .before .before .before .before .before .before .before .before .before .before .before in
-    (head-fits (isPlace (recipeOf (o .args .table .now))) (o .args .state .now) (o .pre .1) .0, c .before .before .before .before .before .drive .ensures .fine-state)
+    let d = c .before .before .before .before .before .before in
+    let o = d .before .before .before .before .before .before .before .before .before .before .before .before in
+    (head-fits (isPlace (recipeOf (o .args .table .now))) (o .args .state .now) (o .pre .1) .0, d .drive .ensures .fine-state)
 
 number-of-requires : tie.Need-number-of-requires
-number-of-requires c κs = ap goesOn (c .before .before .before .before .before .before .before .before .drive .ensures .stop-is)
+number-of-requires c κs = ap goesOn (c .before .before .before .before .before .before .before .before .before .drive .ensures .stop-is)
 
-cast-t25 : tie.Need-cast-t25
-cast-t25 c =
-    let d = c .before .before .before .before .before .before .before .before .before .before .drive in
+place-of-requires : tie.Need-place-of-requires
+place-of-requires c κs = search needs
+
+cast-t26 : tie.Need-cast-t26
+cast-t26 c =
+    let d = c .before .before .before .before .before .before .before .before .before .before .before .drive in
     let f = records-fit (d .ensures) in
     omega arith
 
@@ -55,12 +59,14 @@ same-length-2 c = search needs
 
 returns : tie.Need-returns
 returns c =
-    let o = c .before .before .before .before .before .before .before .before .before .before .before .before .before .before .before .before .before .before .before .before .before .before in
+    let k = c .before .before in
+    let w = k .before .before .before in
+    let d = w .before .before .before .before .before .before .before in
+    let o = d .before .before .before .before .before .before .before .before .before .before .before .before in
     let a = o .args in
     let r = recipeOf (a .table .now) in
-    let d = c .before .before .before .before .before .before .before .before .before .before .drive in
-    answers (d .ensures) _ _ (c .before .number-of .ensures) (c .before .before .before .before .write .ensures)
-    ∙ ap (λ (s : R.State). outcome r (run (recipes r) (a .budget) (roomOf (a .log .now)) s) (a .log .now)) (c .before .before .before .before .before .before .before .before .before .before .before .before .before .before .read .ensures .0)
+    answers (d .drive .ensures) _ _ _ (k .number-of .ensures) (c .place-of .ensures) (w .write .ensures)
+    ∙ ap (λ (s : R.State). outcome r (run (recipes r) (a .budget) (roomOf (a .log .now)) s) (a .log .now)) (d .before .before .before .before .read .ensures .0)
 
 pub carry-out-spec : {M : Type 1} → statement M
 carry-out-spec =
@@ -71,7 +77,8 @@ carry-out-spec =
     drive-requires
     write-requires
     number-of-requires
-    cast-t25
+    cast-t26
+    place-of-requires
     same-length
     same-length-2
     returns)

@@ -34,6 +34,9 @@ enum-told-6 c = search needs
 enum-told-7 : tie.Need-enum-told-7
 enum-told-7 c = search needs
 
+enum-told-8 : tie.Need-enum-told-8
+enum-told-8 c = search needs
+
 returns : tie.Need-returns
 returns c = absurd (true≢false (sym (ap isMore (c .enum-told .given .1)) ∙ c .before .before .pre))
 
@@ -61,6 +64,10 @@ returns-7 : tie.Need-returns-7
 unfolding numberOf
 returns-7 c = subst⁻¹ (Due _) (c .enum-told7 .given .1) refl
 
+returns-8 : tie.Need-returns-8
+unfolding numberOf
+returns-8 c = subst⁻¹ (Due _) (c .enum-told8 .given .1) refl
+
 pub number-of-spec : {M : Type 1} → statement M
 number-of-spec =
     tie.close
@@ -72,10 +79,12 @@ number-of-spec =
     enum-told-5
     enum-told-6
     enum-told-7
+    enum-told-8
     returns
     returns-2
     returns-3
     returns-4
     returns-5
     returns-6
-    returns-7)
+    returns-7
+    returns-8)

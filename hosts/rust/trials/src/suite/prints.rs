@@ -7,7 +7,7 @@ use super::values::VALUES;
 use super::Suite;
 use crate::case::Case;
 use crate::records::{
-    constant, forever, procedure, read, set, skip, spawn, suspend, table, test, two, wait, Part, Row, WHILE,
+    constant, forever, guard, procedure, read, set, skip, spawn, suspend, table, test, two, wait, Part, Row, WHILE,
 };
 use crate::vectors::Vector;
 
@@ -26,6 +26,7 @@ pub fn sweep(suite: &mut Suite, vectors: &[Vector]) {
     values(suite);
     budgets(suite);
     logs(suite);
+    divisors(suite);
 }
 
 /// `refused`, number and place: 11 with its lengths, 12 to 17 at the first statement and further on.
@@ -100,4 +101,22 @@ fn logs(suite: &mut Suite) {
     suite.print(&procedure(&[forever(&[suspend()])]));
     let main = procedure(&[forever(&[spawn(9, 1, read(9)), wait(9)])]);
     suite.print(&[main, procedure(&[set(1, read(64)), suspend()])].concat());
+}
+
+/// `novalue` and the steps: 5 by 0 at once and behind other steps; with the last step of the budget, where "paused"
+/// comes first, and one before it; with no room for the record that would follow; and guards without a value, which are
+/// stuck.
+fn divisors(suite: &mut Suite) {
+    let lacking = || two(3, constant(5), constant(0));
+    let lacks = || set(0, lacking());
+    suite.print(&procedure(&[lacks()]));
+    suite.print(&procedure(&[set(1, constant(6)), skip(), lacks()]));
+    suite.print(&procedure(&[test(WHILE, lacking(), &[])]));
+    suite.print(&procedure(&[spawn(9, 0, lacking())]));
+    suite.print(&procedure(&[guard(lacking())]));
+    for tail in [vec![], skip()] {
+        suite.print(&procedure(&[rounds(4_999, &[]), tail, lacks()]));
+    }
+    let sets: Vec<Part> = (0..15).map(|i| set(i % 8, read(8))).collect();
+    suite.print(&procedure(&[rounds(273, &sets), set(1, constant(-1)), lacks()]));
 }

@@ -32,7 +32,7 @@ fn endings(suite: &mut Suite) {
 }
 
 /// As many live tasks with the last numbers issued, the first at place 1, the others at another.
-fn many(live: u16, issued: u16, others: u16) -> Vec<Task> {
+pub fn many(live: u16, issued: u16, others: u16) -> Vec<Task> {
     (0..live).map(|i| (issued - i, if i == 0 { 1 } else { others }, 9 + i32::from(i))).collect()
 }
 

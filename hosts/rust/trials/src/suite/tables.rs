@@ -193,7 +193,12 @@ pub fn under(kind: u8, tests: usize, part: Part) -> Part {
 
 /// Operators around a constant, as many records deep: the operand is the sole one, the first, the last, or each in turn.
 pub fn deep(style: usize, levels: usize) -> Part {
-    (1..levels).fold(constant(1), |operand, level| match (style, level % 3) {
+    operators(style, levels - 1, constant(1))
+}
+
+/// As many operators around a part.
+pub fn operators(style: usize, levels: usize, part: Part) -> Part {
+    (1..=levels).fold(part, |operand, level| match (style, level % 3) {
         (0, _) | (3, 0) => one(0, operand),
         (1, _) | (3, 1) => two(0, operand, constant(1)),
         _ => two(1, constant(1), operand),

@@ -16,8 +16,7 @@ pub fn sweep(suite: &mut Suite) {
         pairs(suite, operator, &NEAR, &NEAR);
     }
     for operator in 0..2 {
-        let sets: Vec<Part> = VALUES.iter().chain(&NEAR).map(|&a| set(0, one(operator, constant(a)))).collect();
-        suite.run(&table(&procedure(&sets)), fresh(), 1_000, log(400));
+        results(suite, VALUES.iter().chain(&NEAR).map(|&a| set(0, one(operator, constant(a)))).collect());
     }
     reads(suite);
     tests(suite);
@@ -26,17 +25,32 @@ pub fn sweep(suite: &mut Suite) {
     arguments(suite);
 }
 
-/// One table: valve 0 is set to each pair's result, and the log has them all.
-fn pairs(suite: &mut Suite, operator: u8, first: &[i32], second: &[i32]) {
-    let result = |a, b| set(0, two(operator, constant(a), constant(b)));
-    let sets: Vec<Part> = first.iter().flat_map(|&a| second.iter().map(move |&b| result(a, b))).collect();
-    suite.run(&table(&procedure(&sets)), fresh(), 1_000, log(1_600));
+/// One table: the sets of valves that have a value, and the log has them all. A set without a value would stop the run,
+/// so it has a table of its own.
+fn results(suite: &mut Suite, sets: Vec<Part>) {
+    let (valued, lacking): (Vec<Part>, Vec<Part>) = sets.into_iter().partition(has_value);
+    suite.run(&table(&procedure(&valued)), fresh(), 1_000, log(1_600));
+    for set in lacking {
+        suite.run(&table(&procedure(&[set])), fresh(), 1_000, log(16));
+    }
 }
 
-/// Operands from a variable and from the parameter: all operators of a pair in one run, each to a valve of its own.
+/// Whether a set is done as the first step.
+fn has_value(set: &Part) -> bool {
+    recipe_model::run(&table(&procedure(std::slice::from_ref(set))), &mut fresh(), 1, &mut log(8)).steps == 1
+}
+
+/// Valve 0 is set to each pair's result.
+fn pairs(suite: &mut Suite, operator: u8, first: &[i32], second: &[i32]) {
+    let result = |a, b| set(0, two(operator, constant(a), constant(b)));
+    results(suite, first.iter().flat_map(|&a| second.iter().map(move |&b| result(a, b))).collect());
+}
+
+/// Operands from a variable and from the parameter: all operators of a pair in one run, each to a valve of its own, the
+/// quotient last.
 fn reads(suite: &mut Suite) {
-    let sets: Vec<Part> = (0..8).map(|operator| set(operator, two(operator, read(8), read(64)))).collect();
-    let table = table(&procedure(&sets));
+    let operators = [0, 1, 2, 4, 5, 6, 7, 3];
+    let table = table(&procedure(&operators.map(|operator| set(operator, two(operator, read(8), read(64))))));
     for a in VALUES {
         for b in VALUES {
             suite.run(&table, block(1, true, &[(1, 1, b)], &[(8, a)]), 1_000, log(80));
@@ -66,7 +80,7 @@ fn nested(suite: &mut Suite) {
             sets.push(set(2, two(outer, one(0, big()), one(1, big()))));
         }
     }
-    suite.run(&table(&procedure(&sets)), fresh(), 1_000, log(1_600));
+    results(suite, sets);
 }
 
 /// "Names 0–63 are shared variables, of which 0–7 are valves. Name 64 is the task's own parameter." Every name is set
