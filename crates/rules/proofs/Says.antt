@@ -75,17 +75,17 @@ needed-kind k p e h = go (leb 3 k) (leb k 6) refl refl h
     go false b f g h = absurd (let z : _≡_ {A = ℕ} 0 1 = cc in omega arith)
 
 -- a limit bars a spawn whose argument has a value
-spawn-halts : (r : Recipe) (p : Point ℕ) (s : Store) (q : List (Task ℕ)) (u : Task ℕ) (k : Halt) → isSpawn p ≡ true → ((e : Expr) → needs p ≡ some e → ¬ (value (envOf s u) e ≡ none))
+limit-halts : (r : Recipe) (p : Point ℕ) (s : Store) (q : List (Task ℕ)) (u : Task ℕ) (k : Halt) → isSpawn p ≡ true → ((e : Expr) → needs p ≡ some e → ¬ (value (envOf s u) e ≡ none))
     → limits (length q) (s .issued) ≡ some k → actAt (start r) limits p s q u ≡ halts k
-spawn-halts r nowhere s q u k e n h = absurd (false≢true e)
-spawn-halts r stop s q u k e n h = absurd (false≢true e)
-spawn-halts r (skips l) s q u k e n h = absurd (false≢true e)
-spawn-halts r (assigns v x l) s q u k e n h = absurd (false≢true e)
-spawn-halts r (tests x l m) s q u k e n h = absurd (false≢true e)
-spawn-halts r (suspends l) s q u k e n h = absurd (false≢true e)
-spawn-halts r (awaits v l) s q u k e n h = absurd (false≢true e)
-spawn-halts r (guards x l) s q u k e n h = absurd (false≢true e)
-spawn-halts r (spawns v p x l) s q u k e n h = rw h (go (value (envOf s u) x) (n x refl))
+limit-halts r nowhere s q u k e n h = absurd (false≢true e)
+limit-halts r stop s q u k e n h = absurd (false≢true e)
+limit-halts r (skips l) s q u k e n h = absurd (false≢true e)
+limit-halts r (assigns v x l) s q u k e n h = absurd (false≢true e)
+limit-halts r (tests x l m) s q u k e n h = absurd (false≢true e)
+limit-halts r (suspends l) s q u k e n h = absurd (false≢true e)
+limit-halts r (awaits v l) s q u k e n h = absurd (false≢true e)
+limit-halts r (guards x l) s q u k e n h = absurd (false≢true e)
+limit-halts r (spawns v p x l) s q u k e n h = rw h (go (value (envOf s u) x) (n x refl))
   where
     go : (o : Option ℤ) → ¬ (o ≡ none) → needing o (λ z. spawnAt (some k) s u v (start r p) z l) ≡ halts k
     go none g = absurd (g refl)
@@ -186,7 +186,7 @@ module _ (t : List ℕ) (bytes : Bytes t) (fits : check t ≡ fine) where
         spawn-bars n g l =
             let u = n .task in
             let kind = spawn-kind (u .place) (placed u (n .acts)) ∙ eq-eqb (getD t (8 * u .place) 0) 6 (n .is-spawn) in
-            rw (n .acts) (ap (nextAct (recipes r) (c .queue)) (spawn-halts r (at r (u .place)) (c .store) (c .queue) u k kind (λ e m v. g (lacks-there u e (n .acts) m v)) l))
+            rw (n .acts) (ap (nextAct (recipes r) (c .queue)) (limit-halts r (at r (u .place)) (c .store) (c .queue) u k kind (λ e m v. g (lacks-there u e (n .acts) m v)) l))
 
   -- ---- the state that a call leaves, by the call's number
 

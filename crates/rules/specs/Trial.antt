@@ -320,19 +320,19 @@ guarded =
 
 -- ---- no value
 
--- an expression without a value; valve 0 is set to this expression
+-- an expression without a value, and a set of valve 0 to an expression
 abbrev pub none9 : List ℕ
 none9 = operation 3 (pos 1) (pos 0)
 
 abbrev pub setTo : List ℕ → List ℕ
 setTo l = procedureOf (row 3 0 (length l / 8) (pos 0) ++ l)
 
--- the set is not done for any of these expressions
+-- valve 0 set to each of these expressions, which have no value: the set is not done
 abbrev pub noneOf : List (List ℕ) → List Row
 noneOf [] = []
 noneOf (l ∷ ls) = naming 1 (run (setTo l) 24 0 (some [])) ∷ noneOf ls
 
--- each operator of two operands up to this one, with the first and with the second operand without a value
+-- each operator of two operands below this number, with the first and with the second operand without a value
 abbrev pub oneWithout : ℕ → List (List ℕ)
 oneWithout zero = []
 oneWithout (suc o) = (row 11 o 4 (pos 0) ++ none9 ++ one9) ∷ (row 11 o 4 (pos 0) ++ one9 ++ none9) ∷ oneWithout o
@@ -502,7 +502,7 @@ crowd (suc n) = crowd n ++ task (suc n) 1 (pos 0)
 abbrev pub spawnOne : List ℕ
 spawnOne = row 1 0 2 (pos 0) ++ row 6 8 1 (pos 1) ++ row 9 0 0 (pos 0) ++ row 1 0 0 (pos 0)
 
--- the same with an argument that has no value
+-- main spawns itself, with an argument that has no value
 abbrev pub spawnNone : List ℕ
 spawnNone = procedureOf (row 6 8 3 (pos 0) ++ none9)
 

@@ -37,14 +37,19 @@ result32 {z} h = toZ-ofZ (fits32 {z = z} h)
 pub applied1 : (f : ℤ → ℤ) {a r : ℤ} → SFits w32 a → mag r < 2147483648 → r ≡ f (toZ w32 (ofZ w32 a)) → toZ w32 (ofZ w32 r) ≡ f a
 applied1 f fa ok e = result32 ok ∙ e ∙ ap f (toZ-ofZ fa)
 
+-- of two arguments, whatever is made of the result
+module _ {B : Type 0} (g : ℤ → B) (f : ℤ → ℤ → B) {a b r : ℤ} (fa : SFits w32 a) (fb : SFits w32 b) (ok : mag r < 2147483648) where
+  applied : g r ≡ f (toZ w32 (ofZ w32 a)) (toZ w32 (ofZ w32 b)) → g (toZ w32 (ofZ w32 r)) ≡ f a b
+  applied e = ap g (result32 ok) ∙ e ∙ ap₂ f (toZ-ofZ fa) (toZ-ofZ fb)
+
 pub applied2 : (f : ℤ → ℤ → ℤ) {a b r : ℤ} → SFits w32 a → SFits w32 b → mag r < 2147483648
     → r ≡ f (toZ w32 (ofZ w32 a)) (toZ w32 (ofZ w32 b)) → toZ w32 (ofZ w32 r) ≡ f a b
-applied2 f fa fb ok e = result32 ok ∙ e ∙ ap₂ f (toZ-ofZ fa) (toZ-ofZ fb)
+applied2 f = applied (λ z. z) f
 
 -- the same where there may be no value
 pub found2 : (f : ℤ → ℤ → Option ℤ) {a b r : ℤ} → SFits w32 a → SFits w32 b → mag r < 2147483648
     → some r ≡ f (toZ w32 (ofZ w32 a)) (toZ w32 (ofZ w32 b)) → some (toZ w32 (ofZ w32 r)) ≡ f a b
-found2 f fa fb ok e = ap some (result32 ok) ∙ e ∙ ap₂ f (toZ-ofZ fa) (toZ-ofZ fb)
+found2 f = applied some f
 
 -- ---- sizes: mag z is n both for n and for -1 - n
 

@@ -13,7 +13,7 @@ shared-slice-read-if1 : tie.Need-shared-slice-read-if1
 shared-slice-read-if1 c = omega (arith, whole (c .before .before .pre))
 
 operator-requires : tie.Need-operator-requires
-operator-requires c κs = (c .before .before .before .pre, c .if1 .taken)
+operator-requires c κs = (c .before .before .before .pre, omega (arith, c .if1 .taken))
 
 enum-known-v : tie.Need-enum-known-v
 enum-known-v c = search needs

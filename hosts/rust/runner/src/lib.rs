@@ -305,6 +305,13 @@ mod tests {
         assert_eq!(last.to_string(), "ended 1 0 0");
     }
 
+    /// What a host with a sensor makes of a state between two calls.
+    fn with_variable_8(state: &State, value: u8) -> State {
+        let mut block = *state.as_bytes();
+        block[264 + 4 * 8] = value;
+        State::from_bytes(&block).unwrap()
+    }
+
     /// Main waits at a guard over variable 8.
     const GUARD: [[u8; 8]; 3] = [[1, 0, 2, 0, 0, 0, 0, 0], [13, 0, 1, 0, 0, 0, 0, 0], [10, 8, 0, 0, 0, 0, 0, 0]];
 
@@ -316,10 +323,7 @@ mod tests {
         let ran = state.run(&table, 100, &mut log).unwrap();
         assert_eq!(ran, Ran { ending: Ending::Stuck, steps: 1, records: 1 });
         assert_eq!(records(&log, 1).next().unwrap().to_string(), "waits 1 0 0");
-        // What a host with a sensor does between two calls.
-        let mut block = *state.as_bytes();
-        block[264 + 4 * 8] = 1;
-        let ran = State::from_bytes(&block).unwrap().run(&table, 100, &mut log).unwrap();
+        let ran = with_variable_8(&state, 1).run(&table, 100, &mut log).unwrap();
         assert_eq!(ran, Ran { ending: Ending::Finished, steps: 2, records: 2 });
     }
 
@@ -344,9 +348,7 @@ mod tests {
             assert_eq!(ran, Ran { ending, steps: 0, records: 0 });
             assert_eq!(state, State::start(&table).unwrap());
         }
-        let mut block = *state.as_bytes();
-        block[264 + 4 * 8] = 3;
-        let ran = State::from_bytes(&block).unwrap().run(&table, 9, &mut log).unwrap();
+        let ran = with_variable_8(&state, 3).run(&table, 9, &mut log).unwrap();
         assert_eq!(ran, Ran { ending: Ending::Finished, steps: 2, records: 2 });
         assert_eq!(records(&log, 1).next().unwrap().to_string(), "valve 1 0 2");
     }
