@@ -24,7 +24,7 @@
  *
  * Stack
  *   Have 16,384 bytes of stack free for each call, whatever the table
- *   holds. Measured on x86-64: at most 13,055 bytes in recipe_run and 2,319 in
+ *   holds. Measured on x86-64: at most 13,039 bytes in recipe_run and 2,319 in
  *   recipe_start, rounded up here to the next 4 KiB.
  */
 #ifndef RECIPE_RUNNER_H

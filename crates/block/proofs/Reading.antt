@@ -1,6 +1,6 @@
 -- A record of a block as one number; the state that an accepted block says.
 -- Assumes nothing.
-use Prim.Native.Nat.{ℕ, zero, suc, _+_, _-_, _*_, _/_, _%_, _≤_}
+use Prim.Native.Nat.{ℕ, zero, suc, _+_, _-_, _*_, _/_, _%_, _≤_, _<_}
 use mathlib.Core.Path.{_≡_, refl, sym, ap, _∙_}
 use mathlib.Core.Bool.{cond}
 use mathlib.Core.List.{List, _∷_}
@@ -46,49 +46,56 @@ count-active zero h = refl
 count-active (suc zero) h = refl
 count-active (suc (suc active)) h = absurd (omega arith)
 
--- a queue that starts at the ring's first index
-pub straight : (q : List ℕ) (n : ℕ) (f : ℕ → ℕ) → n ≤ 32
-    → take n q ≡ tab n f → queueOf q 0 n ≡ tab n (λ i. unpacked (f i))
+-- an entry of an array whose front is known
+at-index : (q : List ℕ) (n : ℕ) (f : ℕ → ℕ) → take n q ≡ tab n f → (i : ℕ) → i < n → getD q i 0 ≡ f i
+at-index q n f e i h = sym (getD-take n q i 0 h) ∙ ap (λ (p : List ℕ). getD p i 0) e ∙ getD-tab f n i 0 h
+
+-- a queue that starts at the ring's index k and does not go round
+straight : (q : List ℕ) (k n : ℕ) (f : ℕ → ℕ) → k + n ≤ 32
+    → take (k + n) q ≡ tab (k + n) f → queueOf q k n ≡ tab n (λ i. unpacked (f (k + i)))
 unfolding queueOf
-straight q n f l e =
-    tab-same (entry q 0) (λ i. unpacked (f i)) n
+straight q k n f l e =
+    tab-same (entry q k) (λ i. unpacked (f (k + i))) n
     (λ i h.
-    let k : ring 0 i ≡ i = omega arith in
-    ap unpacked (rw k (sym (getD-take n q i 0 h) ∙ ap (λ (p : List ℕ). getD p i 0) e ∙ getD-tab f n i 0 h)))
+    let r : ring k i ≡ k + i = omega arith in
+    ap unpacked (rw r (at-index q (k + n) f e (k + i) (omega arith))))
 
 module _ (b : List ℕ) (bytes : Bytes b) (s : Store) (t : Task) (q : List ℕ) where
-  -- the queue's tasks, from record k on
-  queued : (k n : ℕ) (j : ℕ → ℕ) → ((i : ℕ) → k + i ≡ j i) → n ≤ 32
-      → take n q ≡ tab n (λ i. recordIn b (k + i)) → queueOf q 0 n ≡ tab n (λ i. taskIn b (j i))
+  -- the tasks from record k + 1 on
+  queued : (k n : ℕ) (j : ℕ → ℕ) → ((i : ℕ) → k + i + 1 ≡ j i) → k + n ≤ 32
+      → take (k + n) q ≡ tab (k + n) (λ i. recordIn b (i + 1)) → queueOf q k n ≡ tab n (λ i. taskIn b (j i))
   queued k n j m l e =
-      straight q n (λ i. recordIn b (k + i)) l e
-      ∙ tab-same (λ i. unpacked (recordIn b (k + i))) (λ i. taskIn b (j i)) n
+      straight q k n (λ i. recordIn b (i + 1)) l e
+      ∙ tab-same (λ i. unpacked (recordIn b (k + i + 1))) (λ i. taskIn b (j i)) n
       (λ i h. rw (m i) (record-task b bytes (j i)))
 
   said : (live active : ℕ) → live ≤ 32 → active ≤ cond (eqb live 0) 0 1
-      → take (live - active) q ≡ tab (live - active) (λ i. recordIn b (1 + active + i))
-      → taskOf t ≡ unpacked (recordIn b 1)
-      → record { store = s; active = activeOf (eqb active 1) t; queue = queueOf q 0 (live - active) }
+      → take live q ≡ tab live (λ i. recordIn b (i + 1))
+      → taskOf t ≡ unpacked (getD q 0 0)
+      → record { store = s; active = activeOf (eqb active 1) t; queue = queueOf q active (live - active) }
       ≡ stateOf s active (tab live (λ i. taskIn b (i + 1)))
   said live zero l h e g =
       let n : live - 0 ≡ live = omega arith in
-      rw (n, queued 1 live (λ i. i + 1) (λ i. omega arith) l (rw n at e))
+      let z : 0 + live ≡ live = omega arith in
+      rw (n, queued 0 live (λ i. i + 1) (λ i. omega arith) (omega arith) (rw z e))
   said zero (suc active) l h e g = absurd (omega arith)
   said (suc live) (suc zero) l h e g =
       let n : suc live - 1 ≡ live = omega arith in
+      let z : 1 + live ≡ suc live = omega arith in
       let rest = tab live (λ i. taskIn b (suc i + 1)) in
-      let q = queued 2 live (λ i. suc i + 1) (λ i. omega arith) (omega arith) (rw n at e) in
-      rw (n, q, tab-first (λ i. taskIn b (i + 1)) live)
-      (ap (λ (x : R.Task ℕ). stateOf s 1 (x ∷ rest)) (g ∙ record-task b bytes 1))
+      let r = queued 1 live (λ i. suc i + 1) (λ i. omega arith) (omega arith) (rw z e) in
+      let first = at-index q (suc live) (λ i. recordIn b (i + 1)) e 0 (omega arith) in
+      rw (n, r, tab-first (λ i. taskIn b (i + 1)) live)
+      (ap (λ (x : R.Task ℕ). stateOf s 1 (x ∷ rest)) (g ∙ ap unpacked first ∙ record-task b bytes 1))
   said (suc live) (suc (suc active)) l h e g = absurd (omega (arith, active-below (suc live) (suc (suc active)) h .0))
 
 pub reads : (b : List ℕ) → Bytes b → HeadFit b → (issued live active : ℕ) (vs : List ℤ) (t : Task) (q : List ℕ)
     → issued ≡ issuedIn b → live ≡ liveIn b → active ≡ activeIn b → vs ≡ variablesIn b
-    → take (live - active) q ≡ tab (live - active) (λ i. recordIn b (1 + active + i)) → taskOf t ≡ unpacked (recordIn b 1)
+    → take live q ≡ tab live (λ i. recordIn b (i + 1)) → taskOf t ≡ unpacked (getD q 0 0)
     → record {
       store = record { issued = issued; variables = vs };
       active = activeOf (eqb active 1) t;
-      queue = queueOf q 0 (live - active);
+      queue = queueOf q active (live - active);
     }
     ≡ readBlock b
 unfolding readBlock

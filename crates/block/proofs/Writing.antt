@@ -148,18 +148,18 @@ module _ (s : State) (fine : Fine s) (held : Held (taskOf (s .current))) (fits :
   pub written : (a d x : ℕ) (h l r p b : List ℕ) → a ≡ d → d ≡ k → x ≡ packed (taskOf (s .current)) → length h ≡ 520
       → take 8 h ≡ headOf (s .issued) (1 + a + n - 1) d
       → l ≡ sets h 8 (bytes8 x)
-      → take (8 * (1 + a + n)) r ≡ take (8 * (1 + a)) l ++ queue-rows
-      → take (8 * (1 + a + n + (33 - (1 + a + n)))) p ≡ take (8 * (1 + a + n)) r ++ unused-rows (33 - (1 + a + n))
+      → take (8 * (1 + a + n)) r ≡ take (8 * (1 + a)) l ++ ringRows (s .queue) (s .front) (1 + a + n - (1 + a))
+      → take 264 p ≡ take (8 * (1 + a + n)) r ++ unused-rows (33 - (1 + a + n))
       → b ≡ take 264 p ++ valueRows (s .variables)
       → b ≡ writeBlock (view s)
   unfolding writeBlock bytes8
   written a d x h l r p b ea ed ex sized eh el er ep eb =
       let few = fine .few in
       let e : a ≡ k = ea ∙ ed in
-      let end : 8 * (1 + k + n + (33 - (1 + k + n))) ≡ 264 = omega arith in
+      let many : 1 + k + n - (1 + k) ≡ n = omega arith in
       let most : 1 + k + n - 1 ≡ k + n = omega arith in
       let f = front-rows (s .active) h (bytes8 (packed (taskOf (s .current)))) sized refl in
-      let eq = rw (e, end) at ep in
-      let em = rw (e, el, ex) at er in
+      let eq = rw e at ep in
+      let em = rw (e, many, el, ex) at er in
       let et = rw (e, ed, most) at eh in
       rw (eb, eq, em, f, et, head-row, task-rows) (simp append-assoc)

@@ -1,12 +1,18 @@
 -- The records of a state block as numbers, and their bytes.
 -- Assumes nothing.
 use Prim.Native.Nat.{ℕ, _+_, _*_, _/_, _%_}
+use mathlib.Core.Path.{_≡_}
 use mathlib.Core.List.{List, [], _∷_, _++_}
 use lib.IntN.{ℤ, pos}
 use lib.ListN.{getD}
 use Rattle.rules.specs.Fields.{word, bits, bytes2, bytes4}
 use Rattle.rules.specs.State.{joined}
 use Rattle.state.specs.View.{ring}
+
+-- Request 2.3: "Show that at each record the offset is 8 times the record's index." The walks over the task records, which add 8 to the
+-- offset `at` for each record, keep this at each record i that they come to.
+abbrev pub OffsetOf : (i at : ℕ) → Type 0
+OffsetOf i at = at ≡ 8 * i
 
 -- the number in the 8 bytes from index a, and in record i; the 8 bytes of a number
 unfoldable pub long : List ℕ → ℕ → ℕ

@@ -19,11 +19,19 @@ ghost use lib.ListN.{length, take};
 ghost use lib.Seq.{sets};
 ghost use Rattle.rules.specs.Table.{fine, fault, check, recipeOf};
 ghost use Rattle.rules.specs.Places.{isPlace};
-ghost use Rattle.rules.specs.State.{issuedIn, liveIn, numberIn, unlike, headFits, taskFits, unusedFits, recordFits, checkRecords, checkBlock, variablesIn, readBlock, writeBlock, tab};
+ghost use Rattle.rules.specs.State.{issuedIn, liveIn, numberIn, unlike, headFits, taskFits, recordFits, checkRecords, checkBlock, variablesIn, readBlock, writeBlock, tab};
 ghost use Rattle.table.specs.Check.{verdictOf};
 ghost use Rattle.rules.specs.Scheduler.{is};
 ghost use Rattle.state.specs.View.{view, Fine};
-ghost use Rattle.block.specs.Block.{long, recordIn, bytes8, headOf, ringRows, valueRows};
+ghost use Rattle.block.specs.Block.{long, OffsetOf, recordIn, bytes8, headOf, ringRows, valueRows};
+
+// The number in the 8 bytes from `at`.
+fn long_at(b: &[u8], at: usize) -> u64
+    requires { ⌜ at + 8 ≤ length (now b) ⌝ }
+    ensures { λ r. ⌜ r ≡ long (now (b .entry)) at ⌝ }
+{
+    (word_at(b, at) as u64) + 4294967296 * (word_at(b, at + 4) as u64)
+}
 
 // ---- the check
 
@@ -51,18 +59,20 @@ fn head_fits(block: &[u8]) -> bool
     word_at(block, 4) == 0
 }
 
-// Whether none of the records before record i has its number.
-fn is_new(block: &[u8], i: usize) -> bool
-    requires { ⌜ (length (now block) ≡ 520) × (1 ≤ i) × (i ≤ 32) ⌝ }
+// Whether none of the records before record i has its number; `at` is the offset of record i.
+fn is_new(block: &[u8], i: usize, at: usize) -> bool
+    requires { ⌜ (length (now block) ≡ 520) × (1 ≤ i) × (i ≤ 32) × OffsetOf i at ⌝ }
     ensures { λ r. ⌜ r ≡ unlike (now (block .entry)) (numberIn (now (block .entry)) i) (i - 1) ⌝ }
 {
-    let number = half_at(block, 8 * i);
-    let mut k: usize = 0;
-    while k + 1 < i {
-        k += 1;
-        if half_at(block, 8 * k) == number {
+    let number = half_at(block, at);
+    let mut k: usize = 1;
+    let mut earlier: usize = 8;
+    while k < i {
+        if half_at(block, earlier) == number {
             return false;
         }
+        earlier += 8;
+        k += 1;
     }
     true
 }
@@ -89,48 +99,37 @@ fn is_place(table: &[u8], i: usize) -> bool
     kind == 13
 }
 
-// Record i, of a task.
-fn task_fits(table: &[u8], block: &[u8], i: usize) -> bool
-    requires { ⌜ (check (now table) ≡ fine) × (length (now block) ≡ 520) × (1 ≤ i) × (i ≤ 32) ⌝ }
+// Record i, of a task, at its offset.
+fn task_fits(table: &[u8], block: &[u8], i: usize, at: usize) -> bool
+    requires { ⌜ (check (now table) ≡ fine) × (length (now block) ≡ 520) × (1 ≤ i) × (i ≤ 32) × OffsetOf i at ⌝ }
     ensures { λ r. ⌜ r ≡ taskFits (isPlace (recipeOf (now (table .entry)))) (now (block .entry)) i ⌝ }
 {
-    let number = half_at(block, 8 * i);
+    let number = half_at(block, at);
     if number < 1 {
         return false;
     }
     if half_at(block, 0) < number {
         return false;
     }
-    if !is_new(block, i) {
+    if !is_new(block, i, at) {
         return false;
     }
-    let place = half_at(block, 8 * i + 2) as usize;
+    let place = half_at(block, at + 2) as usize;
     is_place(table, place)
 }
 
-// Record i, unused.
-fn unused_fits(block: &[u8], i: usize) -> bool
-    requires { ⌜ (length (now block) ≡ 520) × (i ≤ 32) ⌝ }
-    ensures { λ r. ⌜ r ≡ unusedFits (now (block .entry)) i ⌝ }
-{
-    if word_at(block, 8 * i) != 0 {
-        return false;
-    }
-    word_at(block, 8 * i + 4) == 0
-}
-
-// Record i.
-fn record_fits(table: &[u8], block: &[u8], i: usize) -> bool
-    requires { ⌜ (check (now table) ≡ fine) × (length (now block) ≡ 520) × (i ≤ 32) ⌝ }
+// Record i, at its offset.
+fn record_fits(table: &[u8], block: &[u8], i: usize, at: usize) -> bool
+    requires { ⌜ (check (now table) ≡ fine) × (length (now block) ≡ 520) × (i ≤ 32) × OffsetOf i at ⌝ }
     ensures { λ r. ⌜ r ≡ recordFits (isPlace (recipeOf (now (table .entry)))) (now (block .entry)) i ⌝ }
 {
     if i == 0 {
         return head_fits(block);
     }
     if i <= wide(block[2]) {
-        return task_fits(table, block, i);
+        return task_fits(table, block, i, at);
     }
-    unused_fits(block, i)
+    long_at(block, at) == 0
 }
 
 // The first faulty record.
@@ -139,13 +138,15 @@ fn check_records(table: &[u8], block: &[u8]) -> Verdict
     ensures { λ r. ⌜ verdictOf r ≡ checkRecords (isPlace (recipeOf (now (table .entry)))) (now (block .entry)) 33 0 ⌝ }
 {
     let mut i: usize = 0;
+    let mut at: usize = 0;
     while i < 33 {
-        if !record_fits(table, block, i) {
+        if !record_fits(table, block, i, at) {
             return Verdict {
                 number: 22,
                 place: i as u32,
             };
         }
+        at += 8;
         i += 1;
     }
     Verdict {
@@ -191,26 +192,20 @@ pub fn check(table: &[u8], block: &[u8]) -> Verdict
 
 // ---- reading
 
-// The number in the 8 bytes from `at`.
-fn long_at(b: &[u8], at: usize) -> u64
-    requires { ⌜ at + 8 ≤ length (now b) ⌝ }
-    ensures { λ r. ⌜ r ≡ long (now (b .entry)) at ⌝ }
+// The first n tasks, from record 1 on, as the front of an array.
+fn tasks_in(block: &[u8], n: usize) -> [u64; 32]
+    requires { ⌜ (length (now block) ≡ 520) × (n ≤ 32) ⌝ }
+    ensures { λ r. ⌜ take n r ≡ tab n (λ i. recordIn (now (block .entry)) (i + 1)) ⌝ }
 {
-    (word_at(b, at) as u64) + 4294967296 * (word_at(b, at + 4) as u64)
-}
-
-// The n records from record `first` on, as the front of an array.
-fn records_from(block: &[u8], first: usize, n: usize) -> [u64; 32]
-    requires { ⌜ (length (now block) ≡ 520) × (first + n ≤ 33) × (1 ≤ first) ⌝ }
-    ensures { λ r. ⌜ take n r ≡ tab n (λ i. recordIn (now (block .entry)) (first + i)) ⌝ }
-{
-    let mut queue = [0u64; 32];
+    let mut tasks = [0u64; 32];
     let mut i: usize = 0;
+    let mut from: usize = 8;
     while i < n {
-        queue[i] = long_at(block, 8 * (first + i));
+        tasks[i] = long_at(block, from);
+        from += 8;
         i += 1;
     }
-    queue
+    tasks
 }
 
 // Records 33 to 64.
@@ -228,7 +223,7 @@ fn variables_in(block: &[u8]) -> [i32; 64]
     variables
 }
 
-// What an accepted block says.
+// What an accepted block says. An active task stands first in the array, and the ring's front behind it.
 pub fn read(block: &[u8]) -> State
     requires { ⌜ (length (now block) ≡ 520) × (headFits (now block) ≡ true) ⌝ }
     ensures { λ r. ⌜ (view r ≡ readBlock (now (block .entry))) × Fine r ⌝ }
@@ -237,16 +232,16 @@ pub fn read(block: &[u8]) -> State
     let live = wide(block[2]);
     let taken = wide(block[3]);
     let queued = live - taken;
-    let current = unpack(long_at(block, 8));
-    let queue = records_from(block, 1 + taken, queued);
+    let tasks = tasks_in(block, live);
+    let current = unpack(tasks[0]);
     let variables = variables_in(block);
     State {
         issued: issued,
         active: taken == 1,
         current: current,
-        front: 0,
+        front: taken,
         queued: queued,
-        queue: queue,
+        queue: tasks,
         variables: variables,
     }
 }
@@ -273,17 +268,27 @@ fn put_head(b: &mut [u8], issued: u16, live: u8, taken: u8)
     put_word(b, 4, 0);
 }
 
-// n records from record `first` on: those of a ring from the index `front` on.
-fn put_records(b: &mut [u8], records: [u64; 32], front: usize, n: usize, first: usize)
-    requires { ⌜ (length (now b) ≡ 520) × (front < 32) × (first + n ≤ 33) ⌝ }
-    ensures { λ _. ⌜ take (8 * (first + n)) (now (b .exit)) ≡ take (8 * first) (now (b .entry)) ++ ringRows records front n ⌝ }
+// The records from `first`, at the offset `start`, to before `end`: those of a ring from the index `front` on. Returns the offset of `end`.
+fn put_records(
+    b: &mut [u8],
+    records: [u64; 32],
+    front: usize,
+    first: usize,
+    end: usize,
+    start: usize,
+) -> usize
+    requires { ⌜ (length (now b) ≡ 520) × (front < 32) × (first ≤ end) × (end ≤ 33) × OffsetOf first start ⌝ }
+    ensures { λ r. ⌜ (take (8 * end) (now (b .exit)) ≡ take (8 * first) (now (b .entry)) ++ ringRows records front (end - first)) × OffsetOf end r ⌝ }
 {
-    let mut i: usize = 0;
-    while i < n {
-        let x = records[(front + i) % 32];
-        put_long(b, 8 * (first + i), x);
-        i += 1;
+    let mut k = first;
+    let mut to = start;
+    while k < end {
+        let x = records[(front + (k - first)) % 32];
+        put_long(b, to, x);
+        to += 8;
+        k += 1;
     }
+    to
 }
 
 // Records 33 to 64.
@@ -296,6 +301,13 @@ fn put_variables(b: &mut [u8], variables: [i32; 64])
         put_value(b, 264 + 4 * j, variables[j]);
         j += 1;
     }
+}
+
+// Where the queue's first record starts: behind record 1 where a task is active.
+fn queue_offset(active: bool) -> usize
+    ensures { λ r. ⌜ OffsetOf (1 + is active) r ⌝ }
+{
+    if active { 16 } else { 8 }
 }
 
 // The active tasks.
@@ -317,9 +329,9 @@ pub fn write(s: State, block: &mut [u8])
     put_head(block, s.issued, (next - 1) as u8, taken);
     put_long(block, 8, pack(s.current));
     let queue = s.queue;
-    put_records(block, queue, s.front, queued, first);
+    let at = put_records(block, queue, s.front, first, next, queue_offset(s.active));
     let unused = [0u64; 32];
-    put_records(block, unused, 0, 33 - next, next);
+    put_records(block, unused, 0, next, 33, at);
     let variables = s.variables;
     put_variables(block, variables);
 }

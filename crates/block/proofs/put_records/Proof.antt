@@ -2,27 +2,32 @@ use mathlib.Core.Path.{_≡_, refl, sym, ap, _∙_}
 use mathlib.Core.List.{List, _++_, append-nil}
 use Prim.Native.Nat.{ℕ, _+_, _-_, _*_, _≤_}
 use native.Mathlib.Omega.{arith}
-use native.Mathlib.Nat.{add-zero}
 use lib.ListN.{length, getD, take}
 use lib.Seq.{sets, length-sets}
 use Rattle.rules.specs.State.{joined}
 use Rattle.rules.proofs.Lists.{joined-more}
 use Rattle.state.specs.View.{ring}
-use Rattle.block.specs.Block.{bytes8, ringRows}
+use Rattle.block.specs.Block.{OffsetOf, bytes8, ringRows}
 use Rattle.block.proofs.put_records.Statement.{statement}
 use Rattle.block.proofs.put_records.Tie as tie
 
 abbrev Inv-loop : tie.InvT-loop
-Inv-loop b₀ front n first records i₀ b i =
-    (i ≤ n) × (length b ≡ 520)
-    × (take (8 * (first + i)) b ≡ take (8 * first) b₀ ++ ringRows records front i)
+Inv-loop b₀ front first end start records k₀ to₀ b k to =
+    (first ≤ k) × (k ≤ end) × OffsetOf k to × (length b ≡ 520)
+    × (take (8 * k) b ≡ take (8 * first) b₀ ++ ringRows records front (k - first))
 
 abbrev μ-loop : tie.MeasureT-loop
-μ-loop b₀ front n first records i₀ b i = n - i
+μ-loop b₀ front first end start records k₀ to₀ b k to = end - k
 
 loop-holds : tie.Need-loop-holds Inv-loop μ-loop
 unfolding joined
-loop-holds c = (omega arith, omega arith, rw add-zero (sym (append-nil _)))
+loop-holds c =
+    let a = c .before .args in
+    let e : a .first - a .first ≡ 0 = omega arith in
+    (omega arith, omega arith, c .before .pre .4, omega arith, rw e (sym (append-nil _)))
+
+sub-x : tie.Need-sub-x Inv-loop μ-loop
+sub-x c = omega arith
 
 add-x : tie.Need-add-x Inv-loop μ-loop
 add-x c = omega arith
@@ -33,17 +38,14 @@ mul-x c = omega arith
 array-read-x : tie.Need-array-read-x Inv-loop μ-loop
 array-read-x c = omega arith
 
-add-put-long : tie.Need-add-put-long Inv-loop μ-loop
-add-put-long c = omega arith
-
-mul-put-long : tie.Need-mul-put-long Inv-loop μ-loop
-mul-put-long c = omega arith
-
 put-long-requires : tie.Need-put-long-requires Inv-loop μ-loop
 put-long-requires c κs = omega arith
 
-add-i : tie.Need-add-i Inv-loop μ-loop
-add-i c = omega arith
+add-to : tie.Need-add-to Inv-loop μ-loop
+add-to c = omega arith
+
+add-k : tie.Need-add-k Inv-loop μ-loop
+add-k c = omega arith
 
 loop-less : tie.Need-loop-less Inv-loop μ-loop
 loop-less c = omega arith
@@ -54,24 +56,30 @@ loop-again c =
     let p = c .before .before in
     let h = p .before .before .before in
     let a = h .before .before .args in
-    let i = h .loop .i in
+    let k = h .loop .k in
+    let i = k - a .first in
     let b = h .loop .b in
-    let f : ℕ → List ℕ = λ k. bytes8 (getD (a .t2) (ring (a .front) k) 0) in
-    let at = 8 * (a .first + i) in
-    let e : p .put-long .last .0 ≡ sets b at (f i) = p .put-long .ensures in
-    let n : 8 * (a .first + (i + 1)) ≡ at + 8 = omega arith in
-    let l : length (p .put-long .last .0) ≡ length b = ap length e ∙ length-sets b at (f i) in (
+    let f : ℕ → List ℕ = λ j. bytes8 (getD (a .t2) (ring (a .front) j) 0) in
+    let e : p .put-long .last .0 ≡ sets b (8 * k) (f i) = p .put-long .ensures ∙ ap (λ (at : ℕ). sets b at (f i)) (h .loop .inv .2) in
+    let n : 8 * (k + 1) ≡ 8 * k + 8 = omega arith in
+    let m : k + 1 - a .first ≡ i + 1 = omega arith in
+    let l : length (p .put-long .last .0) ≡ length b = ap length e ∙ length-sets b (8 * k) (f i) in (
       omega arith,
       omega arith,
-      rw (n, e) (joined-more b (take (8 * a .first) (a .b .now)) f i at 8 (f i) refl (omega arith) (h .loop .inv .2) refl),
+      omega arith,
+      omega arith,
+      rw (n, m, e)
+          (joined-more b (take (8 * a .first) (a .b .now)) f i (8 * k) 8 (f i) refl (omega arith) (h .loop .inv .4) refl),
     )
 
 same-length : tie.Need-same-length Inv-loop μ-loop
 same-length c = omega arith
 
 returns : tie.Need-returns Inv-loop μ-loop
-returns c = let e : c .before .loop .i ≡ c .before .before .before .args .n = omega arith in
-    rw e at (c .before .loop .inv .2)
+returns c =
+    let l = c .before .loop in
+    let e : l .k ≡ c .before .before .before .args .end = omega arith in
+    (rw e at (l .inv .4), rw e at (l .inv .2))
 
 pub put-records-spec : {M : Type 1} → statement M
 put-records-spec =
@@ -80,13 +88,13 @@ put-records-spec =
     Inv-loop
     μ-loop
     loop-holds
+    sub-x
     add-x
     mul-x
     array-read-x
-    add-put-long
-    mul-put-long
     put-long-requires
-    add-i
+    add-to
+    add-k
     loop-less
     loop-again
     same-length

@@ -1,9 +1,8 @@
-use mathlib.Core.Path.{_≡_, ap, _∙_}
+use mathlib.Core.Path.{_≡_}
 use Prim.Native.Nat.{_≤_}
 use native.Mathlib.Omega.{arith}
 use lib.ListN.{getD}
 use Rattle.rules.proofs.Blocks.Accepted.{HeadFit, head-facts}
-use Rattle.state.specs.View.{unpacked}
 use Rattle.block.proofs.Reading.{active-below, count-active, reads}
 use borrow.Author.Needs.{needs}
 use Rattle.block.proofs.read.Statement.{statement}
@@ -42,37 +41,32 @@ wide-requires-2 c κs = search needs
 sub-queued : tie.Need-sub-queued
 sub-queued c = few c .1
 
-long-at-requires : tie.Need-long-at-requires
-long-at-requires c κs = search needs
+tasks-in-requires : tie.Need-tasks-in-requires
+tasks-in-requires c κs = (c .before .before .before .before .before .before .pre .0, few c .2)
+
+array-read-unpack : tie.Need-array-read-unpack
+array-read-unpack c = search needs
 
 unpack-requires : tie.Need-unpack-requires
 unpack-requires c κs = search needs
-
-add-records-from : tie.Need-add-records-from
-add-records-from c = search needs
-
-records-from-requires : tie.Need-records-from-requires
-records-from-requires c κs =
-    let w = c .before .before in
-    (w .before .before .before .before .before .before .pre .0, omega (arith, few w), omega arith)
 
 variables-in-requires : tie.Need-variables-in-requires
 variables-in-requires c κs = search needs
 
 returns : tie.Need-returns
 returns c =
-    let w = c .before .before .before .before in
+    let w = c .before .before .before in
     let w1 = w .before .before in
     let h1 = w1 .before .before in
     let known = h1 .before in
     let b = known .before .args .block .now in
-    let q = c .before .records-from in
-    let t = c .before .before .unpack in
+    let q = c .before .before .tasks-in in
+    let t = c .before .unpack in
     let h = few w in (
       reads b (λ k. known .shared-slice-known .given k .fits) (head w) _ _ _ _ (t .result) (q .result)
           (h1 .half-at .ensures) (w1 .wide .ensures .0) (w .wide2 .ensures .0) (c .variables-in .ensures)
-          (q .ensures) (t .ensures ∙ ap unpacked (c .before .before .before .long-at .ensures)),
-      record { front-fits = omega arith; few = omega (arith, count-active (w .wide2 .result) (h .0)) },
+          (q .ensures) (t .ensures),
+      record { front-fits = omega (arith, h .0); few = omega (arith, count-active (w .wide2 .result) (h .0)) },
     )
 
 pub read-spec : {M : Type 1} → statement M
@@ -85,9 +79,8 @@ read-spec =
     shared-slice-read-wide-2
     wide-requires-2
     sub-queued
-    long-at-requires
+    tasks-in-requires
+    array-read-unpack
     unpack-requires
-    add-records-from
-    records-from-requires
     variables-in-requires
     returns)

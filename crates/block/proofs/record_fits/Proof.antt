@@ -1,6 +1,9 @@
-use mathlib.Core.Path.{_≡_, _∙_}
+use mathlib.Core.Path.{_≡_, ap, _∙_}
+use Prim.Native.Nat.{ℕ}
 use native.Mathlib.Omega.{arith}
+use lib.Dec.{eqb}
 use lib.ListN.{getD}
+use Rattle.block.specs.Block.{long}
 use Rattle.block.proofs.Checking.{record-zero, record-used, record-unused}
 use borrow.Author.Needs.{needs}
 use Rattle.block.proofs.record_fits.Statement.{statement}
@@ -30,15 +33,17 @@ returns-2 c =
     let l : w .wide .result ≡ getD (a .block .now) 2 0 = w .wide .ensures .0 in
     c .task-fits .ensures ∙ record-used _ (a .block .now) (a .i) (w .before .before .if1 .left) (omega arith)
 
-unused-fits-requires : tie.Need-unused-fits-requires
-unused-fits-requires c κs = search needs
+long-at-requires : tie.Need-long-at-requires
+long-at-requires c κs = search needs
 
 returns-3 : tie.Need-returns-3
 returns-3 c =
     let w = c .before .before in
-    let a = w .before .before .before .before .before .args in
+    let o = w .before .before .before .before .before in
+    let a = o .args in
     let l : w .wide .result ≡ getD (a .block .now) 2 0 = w .wide .ensures .0 in
-    c .unused-fits .ensures ∙ record-unused _ (a .block .now) (a .i) (w .before .before .if1 .left) (omega arith)
+    ap (λ (x : ℕ). eqb x 0) (c .long-at .ensures ∙ ap (long (a .block .now)) (o .pre .3))
+    ∙ record-unused _ (a .block .now) (a .i) (w .before .before .if1 .left) (omega arith)
 
 pub record-fits-spec : {M : Type 1} → statement M
 record-fits-spec =
@@ -50,5 +55,5 @@ record-fits-spec =
     wide-requires
     task-fits-requires
     returns-2
-    unused-fits-requires
+    long-at-requires
     returns-3)

@@ -32,11 +32,11 @@ pack-requires c κs = search needs
 put-long-requires : tie.Need-put-long-requires
 put-long-requires c κs = search needs
 
+queue-offset-requires : tie.Need-queue-offset-requires
+queue-offset-requires c κs = search needs
+
 put-records-requires : tie.Need-put-records-requires
 put-records-requires c κs = search needs
-
-sub-put-records : tie.Need-sub-put-records
-sub-put-records c = search needs
 
 put-records-requires-2 : tie.Need-put-records-requires-2
 put-records-requires-2 c κs = search needs
@@ -52,7 +52,7 @@ returns c =
     let ev = c .before .before in
     let ep = ev .before .before .before .before .before in
     let er = ep .before .before .before .before in
-    let el = er .before .before .before .before .before in
+    let el = er .before .before .before .before .before .before in
     let ex = el .before in
     let eh = ex .before .before .before .before in
     let ea = eh .before .before in
@@ -65,8 +65,8 @@ returns c =
     (eh .put-head .last .0) (el .put-long .last .0) (er .put-records .last .0)
     (ep .put-records2 .last .0) (ev .put-variables .last .0)
     (ea .wide .ensures .0) (ed .how-many .ensures) (ex .pack .ensures) (eh .put-head .kept .0 ∙ o .pre .0)
-    (eh .put-head .ensures) (el .put-long .ensures) (er .put-records .ensures)
-    (ep .put-records2 .ensures) (ev .put-variables .ensures)
+    (eh .put-head .ensures) (el .put-long .ensures) (er .put-records .ensures .0)
+    (ep .put-records2 .ensures .0) (ev .put-variables .ensures)
 
 pub write-spec : {M : Type 1} → statement M
 write-spec =
@@ -81,8 +81,8 @@ write-spec =
     put-head-requires
     pack-requires
     put-long-requires
+    queue-offset-requires
     put-records-requires
-    sub-put-records
     put-records-requires-2
     put-variables-requires
     same-length

@@ -85,6 +85,7 @@ pub fn workloads() -> Vec<Workload> {
         deep(LEVELS),
         Workload::new("quotients", Step, quotients(), 0, STEPS),
         Workload::new("short-calls", Call, mixed_table(RECORDS), 100, 10),
+        Workload::new("calls-with-tasks", Call, suspenders(32), WARM, 1),
         Workload::new("check-flat", Record, flat_table(), 0, 0),
         Workload::new("check-expressions", Record, expression_table(), 0, 0),
     ]
