@@ -34,7 +34,7 @@ module _ (b : List ℕ) (n : ℕ) where
 
 -- ---- one record
 
--- a record is all zero where it is as one number
+-- the record as one number is 0 exactly where both its words are
 both-zero : (low high : ℕ) → eqb (low + 4294967296 * high) 0 ≡ eqb low 0 && eqb high 0
 both-zero zero zero = refl
 both-zero zero (suc high) = rw (eqb·suc-zero high) (ne-eqb (0 + 4294967296 * suc high) 0 (λ e. omega arith))
