@@ -1,17 +1,18 @@
 /*
  * The recipe runner of the press controller: C interface.
  *
- * Two calls. recipe_start checks a recipe's table and writes a fresh state;
- * recipe_run takes steps from a state and writes what happened into a log.
- * Tasks are scheduled round robin from one ready queue: a task runs until it
- * yields (suspend), waits (await, guard) or ends. Valves, clocks and sensors
- * are the host's business.
+ * Three calls. recipe_start checks a recipe's table and writes a fresh state;
+ * recipe_run takes steps from a state and writes what happened into a log;
+ * recipe_why_stuck writes who waits for whom where a run is stuck. Tasks are
+ * scheduled round robin from one ready queue: a task runs until it yields
+ * (suspend), waits (await, guard) or ends. Valves, clocks and sensors are the
+ * host's business.
  *
  * Buffers
  *   Each buffer is a pointer and a length in bytes, lent for the call only.
  *   - The pointer must not be null, even for length 0, and that many bytes
  *     must be there. No alignment is asked.
- *   - Table, state and log must not overlap.
+ *   - Table, state, log and chain must not overlap.
  *   - Any length and any content is allowed: what breaks a rule is refused.
  *   - A refused call changes no buffer.
  *   - Fields of several bytes are little-endian.
@@ -19,13 +20,14 @@
  * Threads
  *   The library keeps no state of its own and allocates nothing. Calls on
  *   different states are independent. One state and its log must not be used
- *   by two calls at once. The table is only read: calls may share it, and
- *   nobody may write it during a call.
+ *   by two calls at once. What a call only reads, calls may share, and nobody
+ *   may write it during a call: the table, and the state of recipe_why_stuck.
  *
  * Stack
  *   Have 16,384 bytes of stack free for each call, whatever the table
- *   holds. Measured on x86-64: at most 13,039 bytes in recipe_run and 2,319 in
- *   recipe_start, rounded up here to the next 4 KiB.
+ *   holds. Measured on x86-64: at most 13,223 bytes in recipe_run, 2,319 in
+ *   recipe_start and 13,239 in recipe_why_stuck, rounded up here to the next
+ *   4 KiB.
  */
 #ifndef RECIPE_RUNNER_H
 #define RECIPE_RUNNER_H
@@ -46,9 +48,15 @@ extern "C" {
 /* The longest table: 4,096 records. The shortest has one. */
 #define RECIPE_TABLE_MOST_BYTES 32768
 
-/* The `number` of both calls: an ending (0-5, 24) or a refusal (11-23). */
+/* Size of a chain: always exactly this. Two bytes for each of 32 tasks, and two
+   for the number that closes a circle. */
+#define RECIPE_CHAIN_BYTES 66
+
+/* The `number` of each call: accepted (0), an ending (0-5, 24) or a refusal
+   (11-23, 25). */
 enum recipe_number {
-    /* recipe_start: the table is accepted and the fresh state written. */
+    /* recipe_start: the table is accepted and the fresh state written.
+       recipe_why_stuck: the state is stuck and the chain written. */
     RECIPE_ACCEPTED = 0,
 
     /* recipe_run: endings. State and log are as after the steps counted. */
@@ -75,8 +83,13 @@ enum recipe_number {
     /* Refusals of the state, once the table has passed. */
     RECIPE_STATE_LENGTH = 21, /* not RECIPE_STATE_BYTES; place 0 */
     RECIPE_STATE_RECORD = 22, /* place is the faulty state record's index */
-    RECIPE_STATE_NUMBERS = 23 /* more live tasks than numbers issued; such a
-                                 state breaks a rule of 22, which comes first */
+    RECIPE_STATE_NUMBERS = 23, /* more live tasks than numbers issued; such a
+                                  state breaks a rule of 22, which comes
+                                  first */
+
+    /* Refusal of recipe_why_stuck, once table and state have passed. */
+    RECIPE_NOT_STUCK = 25 /* the state is not stuck, or the chain is not of
+                             RECIPE_CHAIN_BYTES; place 0 */
 };
 
 /* Byte 0 of a log record. */
@@ -92,6 +105,16 @@ enum recipe_log_kind {
     RECIPE_LOG_VALVE = 7    /* set a valve; value: what was set */
 };
 
+/* The `end` of recipe_why_stuck: what the chain ends in. 0 when refused. */
+enum recipe_end {
+    RECIPE_END_CIRCLE = 1,       /* a task named earlier; its number is written
+                                    again, and the tasks from its first place
+                                    on wait in a circle */
+    RECIPE_END_NEVER_ISSUED = 2, /* a task that waits for a number never issued,
+                                    which is not written */
+    RECIPE_END_GUARD = 3         /* a task at an untrue guard */
+};
+
 /* What recipe_start returns. */
 struct recipe_started {
     uint32_t number; /* RECIPE_ACCEPTED or a refusal, 11-17 or 21 */
@@ -105,6 +128,14 @@ struct recipe_answer {
     uint32_t records; /* log records written: 0 when refused */
     uint32_t place;   /* the faulty record, or the statement of RECIPE_NOVALUE;
                          0 where none is named */
+};
+
+/* What recipe_why_stuck returns. */
+struct recipe_explained {
+    uint32_t number; /* RECIPE_ACCEPTED or a refusal, 11-17, 21-23 or 25 */
+    uint32_t count;  /* task numbers written, 1 to 33: 0 when refused */
+    uint32_t end;    /* enum recipe_end: 0 when refused */
+    uint32_t place;  /* the faulty record; 0 where none is named */
 };
 
 /*
@@ -167,6 +198,33 @@ struct recipe_started recipe_start(const uint8_t *table, size_t table_len,
 struct recipe_answer recipe_run(const uint8_t *table, size_t table_len,
                                 uint8_t *state, size_t state_len,
                                 uint32_t budget, uint8_t *log, size_t log_len);
+
+/*
+ * Tell why a state is stuck: who waits for whom. A state is stuck where no task
+ * is active, some are queued and none is ready, as after RECIPE_STUCK.
+ *
+ * table, table_len  the recipe as given to recipe_start. Only read.
+ * state, state_len  RECIPE_STATE_BYTES bytes, from recipe_run. Only read.
+ * chain, chain_len  where the chain goes, RECIPE_CHAIN_BYTES bytes: task
+ *                   numbers of 2 bytes each, from the first byte on. Old
+ *                   content does not matter, and bytes past the last number
+ *                   written keep it.
+ *
+ * The first number is the task at the front of the ready queue. Each task waits
+ * for the one after it, whose number is in the variable or parameter that it
+ * awaits. `end` says why the chain goes no further. No number is written twice
+ * but the one that closes a circle. A guard without a value is untrue.
+ *
+ * The chain holds for the state as it is: once the host has written a variable
+ * that a guard or an await reads, ask again.
+ *
+ * Refusals: the table's, then the state's, then RECIPE_NOT_STUCK.
+ */
+struct recipe_explained recipe_why_stuck(const uint8_t *table,
+                                         size_t table_len,
+                                         const uint8_t *state,
+                                         size_t state_len, uint8_t *chain,
+                                         size_t chain_len);
 
 #ifdef __cplusplus
 }

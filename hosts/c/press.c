@@ -6,7 +6,8 @@
  *
  * A slice is one recipe_run call: SLICE_STEPS steps, fewer where the log fills.
  * -s saves the state after each slice and resumes from the file if it is there.
- * -n stops after so many slices.
+ * -n stops after so many slices. Of a run that ends stuck, standard error has
+ * who waits for whom.
  */
 #define _POSIX_C_SOURCE 200112L
 
@@ -106,6 +107,11 @@ static int save_state(const struct press *press)
     return result;
 }
 
+static unsigned task_number(const uint8_t *bytes)
+{
+    return bytes[0] | (unsigned)bytes[1] << 8;
+}
+
 static int32_t record_value(const uint8_t *record)
 {
     uint32_t bits = (uint32_t)record[4] | (uint32_t)record[5] << 8 |
@@ -151,10 +157,10 @@ static void print_log(const uint8_t *log, uint32_t records)
 
     for (i = 0; i < records; i++) {
         const uint8_t *record = log + (size_t)i * RECIPE_RECORD_BYTES;
-        unsigned task = record[2] | (unsigned)record[3] << 8;
 
-        printf("%s %u %u %" PRId32 "\n", kind_word(record[0]), task,
-               (unsigned)record[1], record_value(record));
+        printf("%s %u %u %" PRId32 "\n", kind_word(record[0]),
+               task_number(record + 2), (unsigned)record[1],
+               record_value(record));
     }
 }
 
@@ -170,6 +176,38 @@ static int is_refusal(uint32_t number)
     return number >= RECIPE_TABLE_LENGTH && number <= RECIPE_STATE_NUMBERS;
 }
 
+/* What the last task of a chain does. */
+static const char *end_words(uint32_t end)
+{
+    switch (end) {
+    case RECIPE_END_CIRCLE: return "was named before: a circle";
+    case RECIPE_END_NEVER_ISSUED: return "waits for a number never issued";
+    case RECIPE_END_GUARD: return "waits at an untrue guard";
+    default: return "unknown";
+    }
+}
+
+/* Tell who waits for whom, a line for each number of the chain. */
+static void tell_chain(const struct press *press)
+{
+    uint8_t chain[RECIPE_CHAIN_BYTES];
+    struct recipe_explained explained =
+        recipe_why_stuck(press->table, press->table_len, press->state,
+                         press->state_len, chain, sizeof chain);
+    uint32_t i;
+
+    for (i = 0; i < explained.count; i++) {
+        unsigned task = task_number(chain + 2 * i);
+
+        if (i + 1 < explained.count)
+            fprintf(stderr, "press: task %u waits for task %u\n", task,
+                    task_number(chain + 2 * (i + 1)));
+        else
+            fprintf(stderr, "press: task %u %s\n", task,
+                    end_words(explained.end));
+    }
+}
+
 static int ended(const struct press *press, const struct recipe_answer *answer)
 {
     printf("%s %" PRIu64 "\n", ending_word(answer->number), press->steps);
@@ -178,6 +216,8 @@ static int ended(const struct press *press, const struct recipe_answer *answer)
     if (answer->number == RECIPE_NOVALUE)
         fprintf(stderr, "press: record %" PRIu32 " divides by 0\n",
                 answer->place);
+    if (answer->number == RECIPE_STUCK)
+        tell_chain(press);
     return answer->number == RECIPE_FINISHED ? EXIT_FINISHED : EXIT_UNFINISHED;
 }
 

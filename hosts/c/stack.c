@@ -3,8 +3,9 @@
  *
  * Each call runs in a thread whose stack is a buffer painted before; the lowest
  * byte that changed says how deep the call went. The tables are those that
- * nest as deep as the rules allow, have as many records as they allow, or are
- * refused only for being too deep. Bytes are counted from the caller's frame.
+ * nest as deep as the rules allow, have as many records as they allow, leave as
+ * many tasks in a circle, or are refused only for being too deep. Bytes are
+ * counted from the caller's frame.
  */
 #define _POSIX_C_SOURCE 200112L
 
@@ -25,15 +26,19 @@ enum {
 
 /* The table's kinds that are used here. */
 enum kind {
-    PROCEDURE = 1, SKIP = 2, SET = 3, IF = 4, WHILE = 5, SPAWN = 6,
-    CONSTANT = 9, TWO_OPERANDS = 11, ONE_OPERAND = 12, GUARD = 13
+    PROCEDURE = 1, SKIP = 2, SET = 3, IF = 4, WHILE = 5, SPAWN = 6, AWAIT = 8,
+    CONSTANT = 9, VARIABLE = 10, TWO_OPERANDS = 11, ONE_OPERAND = 12, GUARD = 13
 };
 
 /* Which operand of an expression holds the next one. */
 enum lean { SOLE, FIRST, SECOND };
 
+/* The runner's calls, and what is printed for them. */
+enum callee { START, RUN, WHY_STUCK, CALLEES };
+static const char *const callee_word[CALLEES] = {"start", "run", "why"};
+
 struct call {
-    int starts; /* recipe_start, else recipe_run */
+    enum callee callee;
     uint32_t number;
     size_t bytes;
 };
@@ -42,11 +47,11 @@ static uint8_t table[RECIPE_TABLE_MOST_BYTES];
 static size_t records; /* how many of them the table has so far */
 static uint8_t state[RECIPE_STATE_BYTES];
 static uint8_t logged[RECIPE_TABLE_MOST_BYTES];
+static uint8_t chain[RECIPE_CHAIN_BYTES];
 
 static uint8_t *stack;
 static uint8_t paint;
-static size_t most_start;
-static size_t most_run;
+static size_t most[CALLEES];
 
 static void give_up(const char *what)
 {
@@ -80,41 +85,52 @@ static void enclose(size_t record)
     set_span(record, records - record - 1);
 }
 
-/* An expression that is true, with operators down to `deepest`. */
-static void append_expression(int depth, int deepest, enum lean lean)
+/* An expression with operators down to `deepest`, true if its constants are 1
+   and untrue if they are 0. */
+static void append_expression(uint8_t constant, int depth, int deepest,
+                              enum lean lean)
 {
     static const uint8_t negation = 0, or_operator = 7;
     size_t at;
 
     if (depth >= deepest) {
-        append(CONSTANT, 0, 1);
+        append(CONSTANT, 0, constant);
         return;
     }
     at = lean == SOLE ? append(ONE_OPERAND, negation, 0)
                       : append(TWO_OPERANDS, or_operator, 0);
     if (lean == SECOND)
-        append(CONSTANT, 0, 1);
-    append_expression(depth + 1, deepest, lean);
+        append(CONSTANT, 0, constant);
+    append_expression(constant, depth + 1, deepest, lean);
     if (lean == FIRST)
-        append(CONSTANT, 0, 1);
+        append(CONSTANT, 0, constant);
     enclose(at);
 }
 
 /* Ifs and whiles in one another, a statement at depth `last` in the innermost;
    every expression goes down to `deepest`. */
-static void append_nest(enum kind innermost, int depth, int last, int deepest,
-                        enum lean lean)
+struct nest {
+    enum kind innermost;
+    uint8_t constant; /* of the innermost statement's expression */
+    int last;
+    int deepest;
+    enum lean lean;
+};
+
+static void append_nest(const struct nest *nest, int depth)
 {
+    int inside = depth == nest->last;
     size_t at;
 
-    if (depth >= deepest) {
+    if (depth >= nest->deepest) {
         append(SKIP, 0, 0);
         return;
     }
-    at = append(depth == last ? innermost : depth % 2 == 0 ? IF : WHILE, 0, 0);
-    append_expression(depth + 1, deepest, lean);
-    if (depth < last)
-        append_nest(innermost, depth + 1, last, deepest, lean);
+    at = append(inside ? nest->innermost : depth % 2 == 0 ? IF : WHILE, 0, 0);
+    append_expression(inside ? nest->constant : 1, depth + 1, nest->deepest,
+                      nest->lean);
+    if (depth < nest->last)
+        append_nest(nest, depth + 1);
     enclose(at);
 }
 
@@ -133,6 +149,22 @@ static size_t untouched_bytes(void)
     return i;
 }
 
+static uint32_t number_of(enum callee callee)
+{
+    size_t table_len = records * RECIPE_RECORD_BYTES;
+
+    switch (callee) {
+    case START:
+        return recipe_start(table, table_len, state, sizeof state).number;
+    case RUN:
+        return recipe_run(table, table_len, state, sizeof state, BUDGET, logged,
+                          sizeof logged).number;
+    default:
+        return recipe_why_stuck(table, table_len, state, sizeof state, chain,
+                                sizeof chain).number;
+    }
+}
+
 /* Runs on the painted stack. */
 static void *measured_call(void *argument)
 {
@@ -140,13 +172,7 @@ static void *measured_call(void *argument)
     volatile uint8_t here = 0;
     uintptr_t deepest;
 
-    if (call->starts)
-        call->number = recipe_start(table, records * RECIPE_RECORD_BYTES,
-                                    state, sizeof state).number;
-    else
-        call->number = recipe_run(table, records * RECIPE_RECORD_BYTES, state,
-                                  sizeof state, BUDGET, logged,
-                                  sizeof logged).number;
+    call->number = number_of(call->callee);
     deepest = (uintptr_t)stack + untouched_bytes();
     call->bytes = (size_t)((uintptr_t)&here - deepest);
     return NULL;
@@ -167,9 +193,9 @@ static void on_painted_stack(struct call *call)
 }
 
 /* Two colours: a byte that the call writes may have one of them by chance. */
-static struct call measure(int starts)
+static struct call measure(enum callee callee)
 {
-    struct call first = {starts, 0, 0}, second = {starts, 0, 0};
+    struct call first = {callee, 0, 0}, second = {callee, 0, 0};
     uint8_t before[RECIPE_STATE_BYTES];
 
     memcpy(before, state, sizeof state);
@@ -181,50 +207,76 @@ static struct call measure(int starts)
     return first.bytes > second.bytes ? first : second;
 }
 
-/* Measure both calls with the table as it is, and begin a new one. */
+/* Measure the calls with the table as it is, each with the state that the one
+   before left, and begin a new table. */
 static void report(const char *shape)
 {
-    struct call start = measure(1);
-    struct call run = measure(0);
+    int callee;
 
-    printf("%-38s start %2u %6zu  run %2u %6zu\n", shape,
-           (unsigned)start.number, start.bytes, (unsigned)run.number,
-           run.bytes);
-    if (start.bytes > most_start)
-        most_start = start.bytes;
-    if (run.bytes > most_run)
-        most_run = run.bytes;
+    printf("%-38s", shape);
+    for (callee = START; callee < CALLEES; callee++) {
+        struct call call = measure((enum callee)callee);
+
+        printf("  %s %2u %6zu", callee_word[callee], (unsigned)call.number,
+               call.bytes);
+        if (call.bytes > most[callee])
+            most[callee] = call.bytes;
+    }
+    putchar('\n');
     records = 0;
 }
 
-static void report_nest(enum kind innermost, int last, int deepest,
-                        enum lean lean)
+static const char *nest_word(const struct nest *nest)
+{
+    if (nest->innermost != GUARD)
+        return "statements";
+    return nest->constant == 0 ? "untrue guard" : "guard";
+}
+
+static void report_nest(struct nest nest)
 {
     static const char *const operand[] = {"sole", "first", "second"};
     char shape[64];
     size_t main_procedure = append(PROCEDURE, 0, 0);
 
-    append_nest(innermost, 1, last, deepest, lean);
+    append_nest(&nest, 1);
     enclose(main_procedure);
     fill_with_procedures();
-    snprintf(shape, sizeof shape, "%s to %d, all to %d, %s",
-             innermost == GUARD ? "guard" : "statements", last, deepest,
-             operand[lean]);
+    snprintf(shape, sizeof shape, "%s to %d, all to %d, %s", nest_word(&nest),
+             nest.last, nest.deepest, operand[nest.lean]);
     report(shape);
+}
+
+static void report_sets(enum lean lean)
+{
+    int last;
+
+    for (last = 1; last <= MOST_DEPTH; last++)
+        report_nest((struct nest){SET, 1, last, MOST_DEPTH, lean});
+    report_nest((struct nest){SET, 1, 1, MOST_DEPTH + 1, lean});
+    report_nest((struct nest){SET, 1, MOST_DEPTH + 1, MOST_DEPTH + 1, lean});
+    report_nest((struct nest){SET, 1, 1, RECORDS / 3, lean});
+}
+
+/* Guards that are passed, and guards that leave the run stuck. */
+static void report_guards(enum lean lean)
+{
+    uint8_t truth;
+
+    for (truth = 0; truth <= 1; truth++) {
+        report_nest((struct nest){GUARD, truth, 1, MOST_DEPTH, lean});
+        report_nest((struct nest){GUARD, truth, MOST_DEPTH - 1, MOST_DEPTH,
+                                  lean});
+    }
 }
 
 static void report_nests(void)
 {
-    int lean, last;
+    int lean;
 
     for (lean = SOLE; lean <= SECOND; lean++) {
-        for (last = 1; last <= MOST_DEPTH; last++)
-            report_nest(SET, last, MOST_DEPTH, (enum lean)lean);
-        report_nest(SET, 1, MOST_DEPTH + 1, (enum lean)lean);
-        report_nest(SET, MOST_DEPTH + 1, MOST_DEPTH + 1, (enum lean)lean);
-        report_nest(SET, 1, RECORDS / 3, (enum lean)lean);
-        report_nest(GUARD, 1, MOST_DEPTH, (enum lean)lean);
-        report_nest(GUARD, MOST_DEPTH - 1, MOST_DEPTH, (enum lean)lean);
+        report_sets((enum lean)lean);
+        report_guards((enum lean)lean);
     }
 }
 
@@ -278,10 +330,50 @@ static void report_spawns(void)
     report("32 live tasks");
 }
 
+/* 32 tasks in a circle: each awaits its parameter, the number of the task
+   spawned before it, and main the last of them. */
+static void report_circle(void)
+{
+    static const uint8_t less = 4, last = 8, parameter = 64;
+    size_t main_procedure = append(PROCEDURE, 0, 0);
+    size_t loop, test;
+
+    append(SET, last, 0);
+    append(CONSTANT, 0, 1);
+    enclose(records - 2);
+    loop = append(WHILE, 0, 0);
+    test = append(TWO_OPERANDS, less, 0);
+    append(VARIABLE, last, 0);
+    append(CONSTANT, 0, 32);
+    enclose(test);
+    append(SPAWN, last, 1);
+    append(VARIABLE, last, 0);
+    enclose(records - 2);
+    enclose(loop);
+    append(AWAIT, last, 0);
+    enclose(main_procedure);
+    append(PROCEDURE, 0, 0);
+    append(AWAIT, parameter, 0);
+    enclose(records - 2);
+    fill_with_procedures();
+    report("a circle of 32 tasks");
+}
+
+/* The largest of the calls' sizes, to the next 4 KiB. */
+static size_t rounded(void)
+{
+    size_t largest = 0;
+    int callee;
+
+    for (callee = START; callee < CALLEES; callee++)
+        largest = most[callee] > largest ? most[callee] : largest;
+    return (largest + 4095) / 4096 * 4096;
+}
+
 int main(void)
 {
     void *memory;
-    size_t most;
+    int callee;
 
     if (posix_memalign(&memory, STACK_ALIGNMENT, STACK_SIZE) != 0)
         give_up("no memory");
@@ -289,8 +381,8 @@ int main(void)
 
     /* The first calls also pay for the dynamic linker; leave them out. */
     append(PROCEDURE, 0, 0);
-    measure(1);
-    measure(0);
+    for (callee = START; callee < CALLEES; callee++)
+        measure((enum callee)callee);
     records = 0;
 
     puts("table: each call's number and bytes of stack");
@@ -303,10 +395,10 @@ int main(void)
     report_row(GUARD, "a row of guards");
     report_too_deep();
     report_spawns();
+    report_circle();
 
-    most = most_run > most_start ? most_run : most_start;
-    printf("at most: start %zu, run %zu; to the next 4 KiB: %zu\n", most_start,
-           most_run, (most + 4095) / 4096 * 4096);
+    printf("at most: start %zu, run %zu, why %zu; to the next 4 KiB: %zu\n",
+           most[START], most[RUN], most[WHY_STUCK], rounded());
     free(memory);
     return 0;
 }

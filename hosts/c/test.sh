@@ -233,6 +233,69 @@ stuck 1
 exit 3" "$(said "$work/untrue")"
 }
 
+# told TABLE: what the host tells on standard error.
+told() {
+    said "$1" >/dev/null
+    cat "$work/errors"
+}
+
+# Who waits for whom, of runs that end stuck, and nothing of others.
+test_chains() {
+    check "a number never issued is told" \
+        "press: task 1 waits for a number never issued" "$(told "$work/c")"
+
+    table "$work/d" 1,0,3,0 3,8,1,0 9,0,0,1 8,8,0,0
+    check "a task that waits for itself" "press: task 1 waits for task 1
+press: task 1 was named before: a circle" "$(told "$work/d")"
+
+    # Task 2 waits for main, which is at the guard.
+    table "$work/behind" 1,0,6,0 3,9,1,0 9,0,0,1 6,8,1,1 9,0,0,0 \
+        13,0,1,0 9,0,0,0 1,0,1,0 8,9,0,0
+    check "a task behind one at a guard" "press: task 2 waits for task 1
+press: task 1 waits at an untrue guard" "$(told "$work/behind")"
+    check "a guard without a value" "press: task 1 waits at an untrue guard" \
+        "$(told "$work/untrue")"
+
+    for file in a guard long_run share late; do
+        check "no chain where a run is not stuck: $file" 0 \
+            "$(told "$work/$file" | grep -c waits)"
+    done
+}
+
+# Task 3, at the front, waits for 1; 1 and 2 wait for each other.
+test_circle_behind_a_task() {
+    table "$work/third" 1,0,5,0 6,8,1,1 9,0,0,0 6,9,1,2 9,0,0,0 8,8,0,0 \
+        1,0,3,0 3,10,1,0 9,0,0,1 8,10,0,0 1,0,1,0 8,10,0,0
+    check "a circle behind a third task" "spawned 1 0 2
+spawned 1 0 3
+waits 1 0 2
+taken 2 0 0
+waits 2 0 1
+stuck 6
+exit 3" "$(said -s "$work/third.state" "$work/third")"
+    chain="press: task 3 waits for task 1
+press: task 1 waits for task 2
+press: task 2 waits for task 1
+press: task 1 was named before: a circle"
+    check "its chain" "$chain" "$(cat "$work/errors")"
+    check "stuck again when resumed" "stuck 0
+exit 3" "$(said -s "$work/third.state" "$work/third")"
+    check "with the same chain" "$chain" "$(cat "$work/errors")"
+}
+
+# Each of 32 tasks waits for the one spawned before it, and main for the last.
+test_longest_chain() {
+    table "$work/circle" 1,0,9,0 3,8,1,0 9,0,0,1 5,0,5,0 11,4,2,0 10,8,0,0 \
+        9,0,0,32 6,8,1,1 10,8,0,0 8,8,0,0 1,0,1,0 8,64,0,0
+    check "a circle of 32 tasks" "press: task 2 waits for task 1
+press: task 1 waits for task 32
+$(awk 'BEGIN {
+    for (task = 32; task > 2; task--)
+        print "press: task " task " waits for task " task - 1
+}')
+press: task 2 was named before: a circle" "$(told "$work/circle")"
+}
+
 test_trouble() {
     check "no table named" "exit 2" "$(said)"
     check "two tables named" "exit 2" "$(said "$work/a" "$work/a")"
@@ -250,5 +313,8 @@ test_refused_state
 test_resume
 test_sensor
 test_divisor
+test_chains
+test_circle_behind_a_task
+test_longest_chain
 test_trouble
 exit $failed

@@ -49,7 +49,7 @@ fn is_live(queue: &[u64; 32], front: usize, queued: usize, number: u16) -> bool
 }
 
 // The number that a value is, or 0, which is none.
-fn natural(v: i32) -> u32
+pub fn natural(v: i32) -> u32
     ensures { λ r. ⌜ r ≡ natural v ⌝ }
 {
     if v < 0 {

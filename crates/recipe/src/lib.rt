@@ -3,10 +3,14 @@ use runner::Answer;
 use runner::Started;
 use runner::run;
 use runner::start;
+use why::Explained;
+use why::why_stuck;
 ghost use mathlib.Core.Path.{_≡_};
 ghost use Rattle.rules.specs.Run.{startOn, runOn};
 ghost use Rattle.rules.specs.Answers.{StartAnswers, StartSays, RunAnswers, RunSays};
+ghost use Rattle.rules.specs.Why.{whyOn, WhySays};
 ghost use Rattle.runner.specs.Calls.{startedOf, outcomeOf, called, MeetsDemand, ContinuesAsOne};
+ghost use Rattle.why.specs.Explained.{explainedOf, AfterStuck};
 
 #[no_mangle]
 pub extern "C" fn recipe_start(table: &[u8], state: &mut [u8]) -> Started
@@ -26,4 +30,13 @@ pub extern "C" fn recipe_run(table: &[u8], state: &mut [u8], budget: u32, log: &
     ensures { λ r. ⌜ ContinuesAsOne (now (table .entry)) (now (state .entry)) (called budget (now (log .entry)) r (now (state .exit)) (now (log .exit))) ⌝ }
 {
     run(table, state, budget, log)
+}
+
+#[no_mangle]
+pub extern "C" fn recipe_why_stuck(table: &[u8], state: &[u8], chain: &mut [u8]) -> Explained
+    ensures { λ r. ⌜ explainedOf r (now (chain .exit)) ≡ whyOn (now (table .entry)) (now (state .entry)) (now (chain .entry)) ⌝ }
+    ensures { λ r. ⌜ WhySays (now (table .entry)) (now (state .entry)) (now (chain .entry)) (explainedOf r (now (chain .exit))) ⌝ }
+    ensures { λ r. ⌜ AfterStuck (now (table .entry)) (now (state .entry)) (now (chain .entry)) r ⌝ }
+{
+    why_stuck(table, state, chain)
 }

@@ -9,7 +9,8 @@ use native.Mathlib.Omega.{arith}
 use Rattle.rules.specs.State.{State}
 use Rattle.rules.specs.Scheduler.{Next, finish, jam, bar, goes}
 use Rattle.rules.specs.Answers.{refuses, published}
-use Rattle.rules.specs.Trial.{rows, startRows, outcomeOf, allPass, allStart, refusals, returned, those}
+use Rattle.rules.specs.Why as W
+use Rattle.rules.specs.Trial.{rows, startRows, whyRows, outcomeOf, allPass, allStart, allWhy, refusals, returned, whyReturned, those}
 use Rattle.rules.specs.Witness.{rules, moments, Counts, NoChain}
 use Rattle.rules.proofs.Computed.{meaning}
 
@@ -21,12 +22,19 @@ pub start-rows-hold : allStart startRows ≡ true
 unfolding meaning allStart
 start-rows-hold = refl
 
+pub why-rows-hold : allWhy whyRows ≡ true
+unfolding meaning allWhy
+why-rows-hold = refl
+
 -- the published list, number by number
 pub published-are : those published 256 ≡ returned
 published-are = refl
 
 pub refusals-are : those refuses 256 ≡ refusals
 refusals-are = refl
+
+pub why-published-are : those W.published 256 ≡ whyReturned
+why-published-are = refl
 
 pub witness-counts : Counts
 unfolding meaning moments

@@ -34,14 +34,14 @@ use Rattle.rules.proofs.Grammar.Theorem.{accepted-spells}
 -- ---- what opens
 
 -- an accepted table with its recipe, and a state that fits it
-record Open (t b : List ℕ) (r : Recipe) (c : State) : Type 0 where
-  passes : check t ≡ fine
-  recipe : r ≡ recipeOf t
-  within : Within r
-  fit : Fit r c
-  block : b ≡ writeBlock c
+pub record Open (t b : List ℕ) (r : Recipe) (c : State) : Type 0 where
+  pub passes : check t ≡ fine
+  pub recipe : r ≡ recipeOf t
+  pub within : Within r
+  pub fit : Fit r c
+  pub block : b ≡ writeBlock c
 
-open-fits : (t b : List ℕ) (r : Recipe) (c : State) → Bytes t → Bytes b → openOn t b ≡ opens r c → Open t b r c
+pub open-fits : (t b : List ℕ) (r : Recipe) (c : State) → Bytes t → Bytes b → openOn t b ≡ opens r c → Open t b r c
 unfolding openOn
 open-fits t b r c bt bb e = go (check t) (checkBlock (isPlace (recipeOf t)) b) refl refl e
   where
@@ -60,7 +60,7 @@ open-fits t b r c bt bb e = go (check t) (checkBlock (isPlace (recipeOf t)) b) r
         }
 
 -- what a state that fits leaves is accepted again
-opens-again : (t : List ℕ) (r : Recipe) (c : State) → check t ≡ fine → r ≡ recipeOf t → Fit r c → openOn t (writeBlock c) ≡ opens r c
+pub opens-again : (t : List ℕ) (r : Recipe) (c : State) → check t ≡ fine → r ≡ recipeOf t → Fit r c → openOn t (writeBlock c) ≡ opens r c
 unfolding openOn
 opens-again t r c h e f = rw (h, ← e, fit-write r c f, read-write r c f) refl
 

@@ -18,5 +18,6 @@ pub mod Faults
 pub mod Demand
 pub mod Guards
 pub mod NoValue
+pub mod Why
 pub mod Says
 pub mod Witness

@@ -278,23 +278,34 @@ refused-by t b n i = go (check t) (checkBlock (isPlace (recipeOf t)) b)
     go fine (fault m j) = (⊎-elim (λ e. absurd (let z : _≡_ {A = ℕ} 0 1 = cc in omega arith)) (λ e. let e′ = e .1 in cc), λ e. inr (refl, cc))
     go fine fine = (⊎-elim (λ e. absurd (let z : _≡_ {A = ℕ} 0 1 = cc in omega arith)) (λ e. absurd (let e′ = e .1 in let z : _≡_ {A = ℕ} 0 1 = cc in omega arith)), λ e. absurd (let z : _≡_ {A = ℕ} 0 1 = cc in omega arith))
 
--- an answer's number and place are those of a refusal exactly where it is refused
-refusal-said : (t b : List ℕ) (budget : ℕ) (l : List ℕ) (n i : ℕ) → (openOn t b ≡ R.refuses n i) ↔ ((refuses n ≡ true) × (runOn t b budget l .number ≡ n) × (runOn t b budget l .place ≡ i))
-unfolding runOn
-refusal-said t b budget l n i = go (openOn t b) (λ m j e. opened-number t b m j e)
+-- table and block are accepted or refused, and so they open
+pub which-opens : (t b : List ℕ) → ((n : ℕ) × (i : ℕ) × (openOn t b ≡ R.refuses n i) × (¬ Accepted t b)) ⊎ (Accepted t b × (openOn t b ≡ opens (recipeOf t) (readBlock b)))
+which-opens t b = go (check t) (checkBlock (isPlace (recipeOf t)) b) refl refl
   where
-    go : (o : Opened) → ((m j : ℕ) → o ≡ R.refuses m j → refuses m ≡ true) → (o ≡ R.refuses n i) ↔ ((refuses n ≡ true) × (runWith o b budget l .number ≡ n) × (runWith o b budget l .place ≡ i))
-    go (R.refuses m j) f = (λ e. (f n i e, cc, cc), λ h. let p = h .1 in let q = h .2 in cc)
-    go (opens r c) f = (λ e. absurd (let z : _≡_ {A = ℕ} 0 1 = cc in omega arith), λ h. absurd (true≢false (sym (h .0) ∙ ap refuses (sym (h .1)) ∙ not-refusal r c)))
-      where
-        not-refusal : (r : Recipe) (c : State) → refuses (outcome r (run (recipes r) budget (roomOf l) c) l .number) ≡ false
-        not-refusal r c = unfold outcome in ending-published (ending (recipes r) (run (recipes r) budget (roomOf l) c)) .1
+    other : {n i : ℕ} {v : Verdict} → v ≡ fault n i → ¬ (v ≡ fine)
+    other h e = let z : _≡_ {A = ℕ} 0 1 = cc in omega arith
+
+    go : (v w : Verdict) → check t ≡ v → checkBlock (isPlace (recipeOf t)) b ≡ w
+        → ((n : ℕ) × (i : ℕ) × (openOn t b ≡ R.refuses n i) × (¬ Accepted t b)) ⊎ (Accepted t b × (openOn t b ≡ opens (recipeOf t) (readBlock b)))
+    go (fault n i) w h g = inl (n, i, refused-by t b n i .0 (inl h), λ a. other h (a .0))
+    go fine (fault n i) h g = inl (n, i, refused-by t b n i .0 (inr (h, g)), λ a. other g (a .1))
+    go fine fine h g = inr ((h, g), opened t b (h, g))
+
+-- an answer's number and place are those of a refusal exactly where table or block is refused
+pub refusal-said : (number place : Opened → ℕ) → ((m j : ℕ) → number (R.refuses m j) ≡ m) → ((m j : ℕ) → place (R.refuses m j) ≡ j) → ((r : Recipe) (c : State) → refuses (number (opens r c)) ≡ false)
+    → (t b : List ℕ) (n i : ℕ) → Refused t b n i ↔ ((refuses n ≡ true) × (number (openOn t b) ≡ n) × (place (openOn t b) ≡ i))
+refusal-said number place p q g t b n i = Iff·trans (refused-by t b n i) (go (openOn t b) (λ m j e. opened-number t b m j e))
+  where
+    go : (o : Opened) → ((m j : ℕ) → o ≡ R.refuses m j → refuses m ≡ true) → (o ≡ R.refuses n i) ↔ ((refuses n ≡ true) × (number o ≡ n) × (place o ≡ i))
+    go (R.refuses m j) f = (λ e. (f n i e, p m j ∙ cc, q m j ∙ cc), λ h. let a = sym (p m j) ∙ h .1 in let d = sym (q m j) ∙ h .2 in cc)
+    go (opens r c) f = (λ e. absurd (let z : _≡_ {A = ℕ} 0 1 = cc in omega arith), λ h. absurd (true≢false (sym (h .0) ∙ ap refuses (sym (h .1)) ∙ g r c)))
 
 pub run-says : (t b : List ℕ) → Bytes t → Bytes b → (budget : ℕ) (l : List ℕ) → RunSays t b budget l (runOn t b budget l)
 unfolding runOn outcome
 run-says t b bt bb budget l =
     record {
-      refused = λ n i. Iff·trans (refused-by t b n i) (refusal-said t b budget l n i);
+      refused = refusal-said (λ o. runWith o b budget l .number) (λ o. runWith o b budget l .place) (λ m j. refl) (λ m j. refl)
+          (λ r c. ending-published (ending (recipes r) (run (recipes r) budget (roomOf l) c)) .1) t b;
       says = λ a.
           let f = fit-read (recipeOf t) b bb (a .1) in
           let w = accepted-spells t bt (a .0) .within in

@@ -20,5 +20,6 @@ pub mod Fairness
 pub mod Demand
 pub mod Guards
 pub mod NoValue
+pub mod Why
 pub mod Witness
 pub mod Rest

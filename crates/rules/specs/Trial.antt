@@ -11,6 +11,7 @@ use Rattle.rules.specs.Fields.{bits, bytes2, bytes4}
 use Rattle.rules.specs.Values.{lowest, highest}
 use Rattle.rules.specs.Recipe.{row}
 use Rattle.rules.specs.Run.{Started, startOn, Outcome, runOn}
+use Rattle.rules.specs.Why.{Explained, halves, whyOn}
 
 -- A table, a block (the one that start writes, if none is given), the budget and the log buffer's length; the number returned, the steps, the place, and
 -- all that is logged and the block left where the row says it.
@@ -598,6 +599,81 @@ startRows =
     ∷ starts [] [] 11 0 []
     ∷ []
 
+-- ---- request 2.4 of document 02: why a state is stuck
+
+-- a table, a block, the output's length; the number, the end and the place; the task numbers written
+pub record WhyRow : Type 0 where
+  pub table : List ℕ
+  pub block : List ℕ
+  pub room : ℕ
+  pub number : ℕ
+  pub end : ℕ
+  pub place : ℕ
+  pub numbers : List ℕ
+
+abbrev pub why : List ℕ → List ℕ → ℕ → List ℕ → WhyRow
+why t b e ns = record { table = t; block = b; room = 66; number = 0; end = e; place = 0; numbers = ns }
+
+abbrev pub noChain : List ℕ → List ℕ → (room number place : ℕ) → WhyRow
+noChain t b l n i = record { table = t; block = b; room = l; number = n; end = 0; place = i; numbers = [] }
+
+-- the block that a run from the fresh state leaves
+abbrev pub leftBy : List ℕ → List ℕ
+leftBy t = runOn t (startOn t (replicate 520 255) .block) 1000 (replicate 800 0) .block
+
+-- At place 1 a task awaits the number that its parameter is; at place 2 it stands at a guard that is untrue, at place 4 at one without a value, at
+-- place 8 it can end.
+abbrev pub waiting : List ℕ
+waiting = procedureOf (row 8 64 0 (pos 0) ++ guardOn zero9 ++ guardOn none9)
+
+-- the tasks 1 to n, each awaiting the next
+abbrev pub rowOf : ℕ → List ℕ
+rowOf zero = []
+rowOf (suc n) = rowOf n ++ task (suc n) 1 (pos (suc (suc n)))
+
+-- task 1 alone at place 1
+abbrev pub alone : List ℕ
+alone = blockOf 1 1 0 (crowd 1)
+
+-- the numbers 1 to n
+abbrev pub upTo : ℕ → List ℕ
+upTo zero = []
+upTo (suc n) = upTo n ++ suc n ∷ []
+
+abbrev pub whyRows : List WhyRow
+whyRows =
+    -- the starred rows that end in "stuck"
+    why rowC (leftBy rowC) 2 (1 ∷ [])
+    ∷ why rowD (leftBy rowD) 1 (1 ∷ 1 ∷ [])
+    -- two tasks in a circle behind a third; a circle of two
+    ∷ why waiting (blockOf 3 3 0 (task 3 1 (pos 1) ++ task 1 1 (pos 2) ++ task 2 1 (pos 1))) 1 (3 ∷ 1 ∷ 2 ∷ 1 ∷ [])
+    ∷ why waiting (blockOf 300 3 0 (task 300 1 (pos 258) ++ task 2 1 (pos 2) ++ task 258 1 (pos 300))) 1 (300 ∷ 258 ∷ 300 ∷ [])
+    -- a guard at the end, untrue and without a value; a front at one, though others wait in a circle
+    ∷ why waiting (blockOf 3 3 0 (task 2 1 (pos 3) ++ task 1 2 (pos 0) ++ task 3 1 (pos 1))) 3 (2 ∷ 3 ∷ 1 ∷ [])
+    ∷ why waiting (blockOf 2 2 0 (task 2 1 (pos 1) ++ task 1 4 (pos 0))) 3 (2 ∷ 1 ∷ [])
+    ∷ why waiting (blockOf 2 2 0 (task 1 2 (pos 0) ++ task 2 1 (pos 2))) 3 (1 ∷ [])
+    -- numbers never issued: 0, one above the highest, and two whose last two bytes are a task's number
+    ∷ why waiting (blockOf 2 2 0 (task 2 1 (pos 1) ++ task 1 1 (pos 0))) 2 (2 ∷ 1 ∷ [])
+    ∷ why waiting (blockOf 2 2 0 (task 2 1 (pos 3) ++ task 1 1 (pos 2))) 2 (2 ∷ [])
+    ∷ why waiting (blockOf 2 2 0 (task 2 1 (pos 65537) ++ task 1 1 (pos 2))) 2 (2 ∷ [])
+    ∷ why waiting (blockOf 2 2 0 (task 2 1 (minus 65535) ++ task 1 1 (pos 2))) 2 (2 ∷ [])
+    -- 32 tasks in one chain
+    ∷ why waiting (blockOf 32 32 0 (rowOf 31 ++ task 32 1 (pos 1))) 1 (upTo 32 ++ 1 ∷ [])
+    -- not stuck: a task active, none live, one that can go on behind the front, one that awaits a done number
+    ∷ noChain waiting (blockOf 2 2 1 (task 2 1 (pos 1) ++ task 1 1 (pos 2))) 66 25 0
+    ∷ noChain waiting (blockOf 2 0 0 []) 66 25 0
+    ∷ noChain waiting (blockOf 2 2 0 (task 2 1 (pos 2) ++ task 1 8 (pos 0))) 66 25 0
+    ∷ noChain waiting (blockOf 3 2 0 (task 2 1 (pos 1) ++ task 1 1 (pos 3))) 66 25 0
+    -- outputs that are not of 66 bytes
+    ∷ noChain rowC alone 65 25 0
+    ∷ noChain rowC alone 67 25 0
+    ∷ noChain rowC alone 64 25 0
+    -- the table first, then the block, then 25
+    ∷ noChain (row 9 0 5 (pos 0)) [] 65 12 0
+    ∷ noChain rowC (take 519 alone) 65 21 0
+    ∷ noChain rowC (blockOf 1 2 0 (task 1 1 (pos 0) ++ task 1 1 (pos 0))) 65 22 2
+    ∷ []
+
 abbrev pub same : List ℕ → List ℕ → Bool
 same [] [] = true
 same [] (b ∷ m) = false
@@ -630,6 +706,15 @@ unfoldable pub allStart : List StartRow → Bool
 allStart [] = true
 allStart (x ∷ xs) = startPasses x (startOn (x .table) (x .block)) && allStart xs
 
+abbrev pub whyPasses : WhyRow → Explained → Bool
+whyPasses x o =
+    eqb (o .number) (x .number) && eqb (o .count) (length (x .numbers)) && eqb (o .end) (x .end) && eqb (o .place) (x .place)
+    && same (halves (x .numbers) ++ replicate (x .room - 2 * length (x .numbers)) 7) (o .output)
+
+unfoldable pub allWhy : List WhyRow → Bool
+allWhy [] = true
+allWhy (x ∷ xs) = whyPasses x (whyOn (x .table) (x .block) (replicate (x .room) 7)) && allWhy xs
+
 -- ---- the published list
 
 -- "Returned": the numbers of the table, and those of them at which state and log are "unchanged"; request 2.2: 24 is "no refusal"
@@ -638,6 +723,10 @@ refusals = 11 ∷ 12 ∷ 13 ∷ 14 ∷ 15 ∷ 16 ∷ 17 ∷ 21 ∷ 22 ∷ 23 ∷
 
 abbrev pub returned : List ℕ
 returned = 0 ∷ 1 ∷ 2 ∷ 3 ∷ 4 ∷ 5 ∷ refusals ++ 24 ∷ []
+
+-- the numbers that the tool of request 2.4 gives
+abbrev pub whyReturned : List ℕ
+whyReturned = 0 ∷ refusals ++ 25 ∷ []
 
 -- the numbers below n of which this holds
 abbrev pub those : (ℕ → Bool) → ℕ → List ℕ

@@ -30,7 +30,7 @@ pub fn verdict(table: &[u8], state: &[u8]) -> Verdict
 }
 
 // The number of a stop's ending. More has none, and no call ends with it.
-fn number_of(stop: Stop) -> u32
+pub fn number_of(stop: Stop) -> u32
     requires { ⌜ isMore stop ≡ false ⌝ }
     ensures { λ r. ⌜ some r ≡ Option·map numberOf (endingOf stop) ⌝ }
 {

@@ -1,6 +1,6 @@
-// Calls start, run and print on cases from standard input and prints what they return, a line each, with a checksum of each buffer that they may
-// write. A case is a record of 8 bytes (byte 0: what is called; bytes 4-7: the budget) and its buffers: table and, but for print, state and, for
-// run, log.
+// Calls start, run, why_stuck and print on cases from standard input and prints what they return, a line each, with a checksum of each buffer that
+// they may write. A case is a record of 8 bytes (byte 0: what is called; bytes 4-7: the budget) and its buffers: table and, but for print, state
+// and, for run, log or, for why_stuck, chain.
 // A buffer is a record of 8 bytes (bytes 2-3: how many bytes follow; bytes 4-7: the buffer's length) and these bytes; from there on each byte is as
 // the one 8 before it, so that a long row of one record is short.
 use libc::STDIN_FILENO;
@@ -11,6 +11,7 @@ use runner::start;
 use table::record::span_of;
 use table::record::wide;
 use table::record::word_of;
+use why::why_stuck;
 ghost use Prim.Native.Nat.{_≤_};
 ghost use lib.ListN.{length};
 
@@ -116,6 +117,15 @@ fn try_on(table: &[u8], state: &mut [u8], budget: u32, log: &mut [u8]) {
     print_last(state);
 }
 
+fn try_why(table: &[u8], state: &[u8], chain: &mut [u8]) {
+    let e = why_stuck(table, state, chain);
+    print(e.number as u64);
+    print(e.count as u64);
+    print(e.end as u64);
+    print(e.place as u64);
+    print_last(chain);
+}
+
 // The length of the text and its checksum.
 fn try_print(table: &[u8]) {
     let mut out = [0u8; 131072];
@@ -139,6 +149,9 @@ fn try_case(what: u8, budget: u32) {
     let l = read_buffer(&mut log);
     if what == 1 {
         return try_run(&table[..t], &mut state[..s], budget, &mut log[..l]);
+    }
+    if what == 4 {
+        return try_why(&table[..t], &state[..s], &mut log[..l]);
     }
     try_on(&table[..t], &mut state[..s], budget, &mut log[..l]);
 }

@@ -47,7 +47,7 @@ module _ (R : Rules) where
   ends-by zero r y (halted k) h = absurd (omega (arith, h .0))
   ends-by (suc b) r y (halted k) h = rw (h .1) refl
 
-  none-go : (c : Config R) (q : List (R .Task)) → anyGo R c q ≡ false → Every (λ t. canGo R c t ≡ false) q
+  pub none-go : (c : Config R) (q : List (R .Task)) → anyGo R c q ≡ false → Every (λ t. canGo R c t ≡ false) q
   none-go c [] h = tt
   none-go c (t ∷ q) h = go (canGo R c t) refl h (λ p. none-go c q p)
     where
@@ -55,7 +55,7 @@ module _ (R : Rules) where
       go true e p ih = absurd (let z : _≡_ {A = ℕ} 0 1 = cc in omega arith)
       go false e p ih = (e, ih p)
 
-  go-none : (c : Config R) (q : List (R .Task)) → Every (λ t. canGo R c t ≡ false) q → anyGo R c q ≡ false
+  pub go-none : (c : Config R) (q : List (R .Task)) → Every (λ t. canGo R c t ≡ false) q → anyGo R c q ≡ false
   go-none c [] h = refl
   go-none c (t ∷ q) h = rw (h .0) (go-none c q (h .1))
 

@@ -88,26 +88,50 @@ returns-3 c = search needs
 array-share-prefix-table-4 : tie.Need-array-share-prefix-table-4
 array-share-prefix-table-4 c = search needs
 
+slice-aggregate-try-why : tie.Need-slice-aggregate-try-why
+slice-aggregate-try-why c = let b = c .before .before .before .before .before .before .before .before .before .before .before .before .read-buffer in sym (length-take-le (b .result) (b .last .0) (b .ensures))
+
+array-share-prefix-state : tie.Need-array-share-prefix-state
+array-share-prefix-state c = search needs
+
+slice-aggregate-try-why-2 : tie.Need-slice-aggregate-try-why-2
+slice-aggregate-try-why-2 c = let b = c .before .before .before .before .before .before .before .before .before .read-buffer2 in sym (length-take-le (b .result) (b .last .0) (b .ensures))
+
+array-borrow-prefix-log-2 : tie.Need-array-borrow-prefix-log-2
+array-borrow-prefix-log-2 c = search needs
+
+slice-aggregate-try-why-3 : tie.Need-slice-aggregate-try-why-3
+slice-aggregate-try-why-3 c = let b = c .before .before .before .before .before .before .read-buffer3 in sym (length-take-le (b .result) (b .last .0) (b .ensures))
+
+try-why-requires : tie.Need-try-why-requires
+try-why-requires c κs = search needs
+
+returns-4 : tie.Need-returns-4
+returns-4 c = search needs
+
+array-share-prefix-table-5 : tie.Need-array-share-prefix-table-5
+array-share-prefix-table-5 c = search needs
+
 slice-aggregate-try-on : tie.Need-slice-aggregate-try-on
-slice-aggregate-try-on c = let b = c .before .before .before .before .before .before .before .before .before .before .before .read-buffer in sym (length-take-le (b .result) (b .last .0) (b .ensures))
+slice-aggregate-try-on c = let b = c .before .before .before .before .before .before .before .before .before .before .before .before .read-buffer in sym (length-take-le (b .result) (b .last .0) (b .ensures))
 
 array-borrow-prefix-state-3 : tie.Need-array-borrow-prefix-state-3
 array-borrow-prefix-state-3 c = search needs
 
 slice-aggregate-try-on-2 : tie.Need-slice-aggregate-try-on-2
-slice-aggregate-try-on-2 c = let b = c .before .before .before .before .before .before .before .before .read-buffer2 in sym (length-take-le (b .result) (b .last .0) (b .ensures))
+slice-aggregate-try-on-2 c = let b = c .before .before .before .before .before .before .before .before .before .read-buffer2 in sym (length-take-le (b .result) (b .last .0) (b .ensures))
 
-array-borrow-prefix-log-2 : tie.Need-array-borrow-prefix-log-2
-array-borrow-prefix-log-2 c = search needs
+array-borrow-prefix-log-3 : tie.Need-array-borrow-prefix-log-3
+array-borrow-prefix-log-3 c = search needs
 
 slice-aggregate-try-on-3 : tie.Need-slice-aggregate-try-on-3
-slice-aggregate-try-on-3 c = let b = c .before .before .before .before .before .read-buffer3 in sym (length-take-le (b .result) (b .last .0) (b .ensures))
+slice-aggregate-try-on-3 c = let b = c .before .before .before .before .before .before .read-buffer3 in sym (length-take-le (b .result) (b .last .0) (b .ensures))
 
 try-on-requires : tie.Need-try-on-requires
 try-on-requires c κs = search needs
 
-returns-4 : tie.Need-returns-4
-returns-4 c = search needs
+returns-5 : tie.Need-returns-5
+returns-5 c = search needs
 
 pub try-case-spec : {M : Type 1} → statement M
 try-case-spec =
@@ -141,10 +165,18 @@ try-case-spec =
     try-run-requires
     returns-3
     array-share-prefix-table-4
+    slice-aggregate-try-why
+    array-share-prefix-state
+    slice-aggregate-try-why-2
+    array-borrow-prefix-log-2
+    slice-aggregate-try-why-3
+    try-why-requires
+    returns-4
+    array-share-prefix-table-5
     slice-aggregate-try-on
     array-borrow-prefix-state-3
     slice-aggregate-try-on-2
-    array-borrow-prefix-log-2
+    array-borrow-prefix-log-3
     slice-aggregate-try-on-3
     try-on-requires
-    returns-4)
+    returns-5)

@@ -1,7 +1,7 @@
-//! State blocks: random ones that pass, and one damage for each way that a block can fail.
+//! State blocks: random ones that pass, many of them stuck, and one damage for each way that a block can fail.
 
 use crate::random::Random;
-use crate::recipe::Recipe;
+use crate::recipe::{Recipe, AWAIT};
 use crate::writer::random_value;
 
 /// The bytes of a block.
@@ -14,12 +14,18 @@ pub fn put_number(block: &mut [u8], record: usize, number: u16) {
     block[8 * record..8 * record + 2].copy_from_slice(&number.to_le_bytes());
 }
 
+/// Bytes 0–1 of a state record.
+fn number(block: &[u8], record: usize) -> u16 {
+    u16::from_le_bytes([block[8 * record], block[8 * record + 1]])
+}
+
 /// Writes a task's place.
 pub fn put_place(block: &mut [u8], record: usize, place: u16) {
     block[8 * record + 2..8 * record + 4].copy_from_slice(&place.to_le_bytes());
 }
 
-fn put_value(block: &mut [u8], at: usize, value: i32) {
+/// Writes a task's parameter or a variable, at its first byte.
+pub fn put_value(block: &mut [u8], at: usize, value: i32) {
     block[at..at + 4].copy_from_slice(&value.to_le_bytes());
 }
 
@@ -59,6 +65,64 @@ pub fn block_of(random: &mut Random, recipe: &Recipe, issued: u16, live: usize, 
         }
     }
     block
+}
+
+/// A block that passes for a recipe with awaits, without an active task, every task at an await or a guard: mostly
+/// stuck.
+pub fn waiting_block(random: &mut Random, recipe: &Recipe) -> Vec<u8> {
+    let live = match random.below(100) {
+        0..55 => random.within(1, 6),
+        55..80 => random.within(7, TASKS - 1),
+        _ => TASKS,
+    };
+    let issued = match random.below(3) {
+        0 => live,
+        1 => live + random.below(4),
+        _ => random.within(live, 65_535),
+    };
+    let mut block = block_of(random, recipe, issued as u16, live, false);
+    for record in 1..=live {
+        put_place(&mut block, record, random.pick(&recipe.waits));
+        let parameter = awaited_value(random, &block);
+        put_value(&mut block, 8 * record + 4, parameter);
+    }
+    for variable in 0..64 {
+        let value = awaited_value(random, &block);
+        put_value(&mut block, 264 + 4 * variable, value);
+    }
+    if random.percent(50) {
+        in_a_row(random, recipe, &mut block);
+    }
+    block
+}
+
+/// The number of a live task, mostly.
+fn awaited_value(random: &mut Random, block: &[u8]) -> i32 {
+    let issued = number(block, 0);
+    match random.below(100) {
+        0..88 => number(block, random.within(1, block[2].into())).into(),
+        88..92 => 0,
+        92..97 => i32::from(issued) + 1,
+        _ => some_value(random, issued),
+    }
+}
+
+/// Lets the front wait for another task by its parameter, that one for a third, and so on, through some or all tasks.
+/// The last one waits as before.
+fn in_a_row(random: &mut Random, recipe: &Recipe, block: &mut [u8]) {
+    let own = |place: &&u16| recipe.table[8 * usize::from(**place)..].starts_with(&[AWAIT, 64]);
+    let Some(&place) = recipe.waits.iter().find(own) else { return };
+    let live = usize::from(block[2]);
+    let mut order: Vec<usize> = (1..=live).collect();
+    random.shuffle(&mut order[1..]);
+    if random.percent(50) {
+        order.truncate(random.within(1, live));
+    }
+    for pair in order.windows(2) {
+        put_place(block, pair[0], place);
+        let next = number(block, pair[1]);
+        put_value(block, 8 * pair[0] + 4, next.into());
+    }
 }
 
 /// Values that are often a number issued or one near it.
@@ -134,7 +198,7 @@ pub fn damage_block(random: &mut Random, block: &mut Vec<u8>, recipe: &Recipe, w
         Way::FirstNotZero => block[4 + random.below(4)] = random.within(1, 255) as u8,
         Way::NumberZero => put_number(block, record, 0),
         Way::NumberOver => {
-            let issued = usize::from(u16::from_le_bytes([block[0], block[1]]));
+            let issued = usize::from(number(block, 0));
             let over = if random.percent(50) { issued + 1 } else { random.within(issued, 65_535) };
             put_number(block, record, over.min(65_535) as u16);
         }

@@ -1,4 +1,4 @@
-//! A case: one table, one block and a list of run calls; and playing it on the library and on the model.
+//! A case: one table, one block and a list of calls; and playing it on the library and on the model.
 
 use std::fmt;
 
@@ -9,7 +9,8 @@ pub struct Call {
     pub log: Vec<u8>,
 }
 
-/// The inputs of one start and of a list of run calls, each on the block that the last one left.
+/// The inputs of one start and of a list of run calls, each on the block that the last one left. Before the first of
+/// them and after each it is asked why the block is stuck.
 #[derive(Clone, Debug, PartialEq, Eq)]
 pub struct Case {
     pub table: Vec<u8>,
@@ -17,27 +18,42 @@ pub struct Case {
     /// The calls go on from the block that the start left, else from the block as given.
     pub fresh: bool,
     pub calls: Vec<Call>,
+    /// The output that is lent for a chain. Its content counts as a log's does.
+    pub chain: Vec<u8>,
 }
 
-/// What one call leaves: the numbers returned (place, or steps, records and place), the block and the log.
+/// What was called.
+#[derive(Clone, Copy, Debug, PartialEq, Eq)]
+pub enum Called {
+    Start,
+    WhyStuck,
+    Run,
+}
+
+/// What one call leaves: the numbers returned (place; count, end and place; or steps, records and place), the block, and
+/// the chain or the log.
 #[derive(Clone, Debug, PartialEq, Eq)]
 pub struct Outcome {
+    pub called: Called,
     pub number: u32,
     pub others: [u32; 3],
     pub block: Vec<u8>,
-    pub log: Vec<u8>,
+    pub output: Vec<u8>,
 }
 
 /// Takes table and block; gives number and place.
 pub type Start = fn(&[u8], &mut [u8]) -> [u32; 2];
 /// Takes table, block, budget and log; gives number, steps, records and place.
 pub type Run = fn(&[u8], &mut [u8], u32, &mut [u8]) -> [u32; 4];
+/// Takes table, block and chain; gives number, count, end and place.
+pub type WhyStuck = fn(&[u8], &[u8], &mut [u8]) -> [u32; 4];
 
-/// The two operations of the library, of the model, or of a stand-in.
+/// The operations of the library, of the model, or of a stand-in.
 #[derive(Clone, Copy)]
 pub struct Side {
     pub start: Start,
     pub run: Run,
+    pub why_stuck: WhyStuck,
 }
 
 pub const LIBRARY: Side = Side {
@@ -48,6 +64,10 @@ pub const LIBRARY: Side = Side {
     run: |table, state, budget, log| {
         let got = recipe_runner::run(table, state, budget, log);
         [got.number, got.steps, got.records, got.place]
+    },
+    why_stuck: |table, state, chain| {
+        let got = recipe_runner::why_stuck(table, state, chain);
+        [got.number, got.count, got.end, got.place]
     },
 };
 
@@ -60,23 +80,37 @@ pub const MODEL: Side = Side {
         let got = recipe_model::run(table, state, budget, log);
         [got.number, got.steps, got.records, got.place]
     },
+    why_stuck: |table, state, chain| {
+        let got = recipe_model::why_stuck(table, state, chain);
+        [got.number, got.count, got.end, got.place]
+    },
 };
 
-/// The outcomes of the start and of each run call.
+/// The outcomes of the start, and then by turns why the block is stuck, and a run call.
 pub fn play(case: &Case, side: &Side) -> Vec<Outcome> {
     let mut block = case.block.clone();
+    let mut outcomes = Vec::with_capacity(2 * case.calls.len() + 2);
     let [number, place] = (side.start)(&case.table, &mut block);
-    let mut outcomes = Vec::with_capacity(case.calls.len() + 1);
-    outcomes.push(Outcome { number, others: [0, 0, place], block: block.clone(), log: Vec::new() });
+    let others = [0, 0, place];
+    outcomes.push(Outcome { called: Called::Start, number, others, block: block.clone(), output: Vec::new() });
     if !case.fresh {
         block.copy_from_slice(&case.block);
     }
+    outcomes.push(explain(case, side, &block));
     for call in &case.calls {
         let mut log = call.log.clone();
         let [number, others @ ..] = (side.run)(&case.table, &mut block, call.budget, &mut log);
-        outcomes.push(Outcome { number, others, block: block.clone(), log });
+        outcomes.push(Outcome { called: Called::Run, number, others, block: block.clone(), output: log });
+        outcomes.push(explain(case, side, &block));
     }
     outcomes
+}
+
+/// Why a block is stuck. The outcome has the block as the call left it.
+fn explain(case: &Case, side: &Side, block: &[u8]) -> Outcome {
+    let (block, mut output) = (block.to_vec(), case.chain.clone());
+    let [number, others @ ..] = (side.why_stuck)(&case.table, &block, &mut output);
+    Outcome { called: Called::WhyStuck, number, others, block, output }
 }
 
 /// The first call whose outcomes differ, 0 being the start, with both outcomes.
@@ -111,7 +145,8 @@ pub fn is_tame(case: &Case) -> bool {
         call.budget = call.budget.min(TAME);
     }
     let outcomes = play(&held, &MODEL);
-    case.calls.iter().zip(&outcomes[1..]).all(|(call, outcome)| call.budget <= TAME || outcome.number != 1)
+    let runs = outcomes.iter().filter(|outcome| outcome.called == Called::Run);
+    case.calls.iter().zip(runs).all(|(call, run)| call.budget <= TAME || run.number != 1)
 }
 
 /// Bytes in hex, `-` for none.
@@ -131,6 +166,7 @@ impl fmt::Display for Case {
         }
         let from = if self.fresh { "the start's" } else { "this" };
         writeln!(f, "block {} (the calls run on {from} block)", hex(&self.block))?;
+        writeln!(f, "chain {}", hex(&self.chain))?;
         for call in &self.calls {
             writeln!(f, "run with budget {} and log {}", call.budget, hex(&call.log))?;
         }
@@ -140,11 +176,15 @@ impl fmt::Display for Case {
 
 impl fmt::Display for Difference {
     fn fmt(&self, f: &mut fmt::Formatter) -> fmt::Result {
-        let name = if self.call == 0 { "the start".to_string() } else { format!("run call {}", self.call) };
-        writeln!(f, "first difference: {name} (number, then steps, records, place; block; log)")?;
+        let (name, others) = match self.left.called {
+            Called::Start => ("the start".to_string(), "0, 0, place"),
+            Called::WhyStuck => (format!("why stuck, after {} run calls", self.call / 2), "count, end, place"),
+            Called::Run => (format!("run call {}", self.call / 2), "steps, records, place"),
+        };
+        writeln!(f, "first difference: {name} (number, then {others}; block; chain or log)")?;
         for (side, outcome) in [("left ", &self.left), ("right", &self.right)] {
-            let (block, log) = (hex(&outcome.block), hex(&outcome.log));
-            writeln!(f, "{side} {} {:?}\n  block {block}\n  log {log}", outcome.number, outcome.others)?;
+            let (block, output) = (hex(&outcome.block), hex(&outcome.output));
+            writeln!(f, "{side} {} {:?}\n  block {block}\n  chain or log {output}", outcome.number, outcome.others)?;
         }
         Ok(())
     }

@@ -1,6 +1,6 @@
 //! Comparing the library with the model, case by case, with counts of what occurred.
 
-use crate::case::{compare, Case, Outcome, LIBRARY, MODEL};
+use crate::case::{compare, Called, Case, Outcome, LIBRARY, MODEL};
 use crate::shrink::shrink;
 use std::collections::BTreeMap;
 use std::fmt;
@@ -9,6 +9,8 @@ use std::fmt;
 pub const RUN_NUMBERS: [u32; 16] = [0, 1, 2, 3, 4, 5, 11, 12, 13, 14, 15, 16, 17, 21, 22, 24];
 /// The published numbers that a start can return.
 pub const START_NUMBERS: [u32; 9] = [0, 11, 12, 13, 14, 15, 16, 17, 21];
+/// The published numbers that a question why a state is stuck can return.
+pub const WHY_NUMBERS: [u32; 11] = [0, 11, 12, 13, 14, 15, 16, 17, 21, 22, 25];
 
 /// What was compared.
 #[derive(Default)]
@@ -25,6 +27,15 @@ pub struct Coverage {
     pub blocks: BTreeMap<u32, u64>,
     /// How many cases had 24 at a statement of this kind.
     pub lacking: BTreeMap<u32, u64>,
+    /// How many questions why a state is stuck had this number; how many chains this end, and so many numbers.
+    pub whys: BTreeMap<u32, u64>,
+    pub ends: BTreeMap<u32, u64>,
+    pub chains: BTreeMap<u32, u64>,
+}
+
+/// Counts one more under a key.
+fn add(counts: &mut BTreeMap<u32, u64>, key: u32) {
+    *counts.entry(key).or_default() += 1;
 }
 
 impl Coverage {
@@ -47,33 +58,57 @@ impl Coverage {
 
     fn count(&mut self, case: &Case, outcomes: &[Outcome]) {
         self.cases += 1;
-        self.calls += outcomes.len() as u64 - 1;
-        *self.starts.entry(outcomes[0].number).or_default() += 1;
-        for (i, outcome) in outcomes.iter().enumerate().skip(1) {
-            let [steps, records, place] = outcome.others;
-            self.steps += u64::from(steps);
-            for record in outcome.log.chunks_exact(8).take(records as usize) {
-                *self.records.entry(u32::from(record[0])).or_default() += 1;
-            }
-            if outcomes[1..i].iter().all(|earlier| earlier.number != outcome.number) {
-                *self.runs.entry(outcome.number).or_default() += 1;
-                match outcome.number {
-                    22 => *self.blocks.entry(place).or_default() += 1,
-                    24 => *self.lacking.entry(case.table[8 * place as usize].into()).or_default() += 1,
-                    _ => {}
+        let mut runs: Vec<u32> = Vec::new();
+        for outcome in outcomes {
+            match outcome.called {
+                Called::Start => add(&mut self.starts, outcome.number),
+                Called::WhyStuck => self.count_why(outcome),
+                Called::Run => {
+                    self.count_run(case, outcome, !runs.contains(&outcome.number));
+                    runs.push(outcome.number);
                 }
             }
         }
     }
 
+    fn count_why(&mut self, outcome: &Outcome) {
+        let [count, end, _] = outcome.others;
+        add(&mut self.whys, outcome.number);
+        if outcome.number == 0 {
+            add(&mut self.ends, end);
+            add(&mut self.chains, count);
+        }
+    }
+
+    /// Counts a run call; its number only if it is the first of its case with it.
+    fn count_run(&mut self, case: &Case, outcome: &Outcome, first: bool) {
+        let [steps, records, place] = outcome.others;
+        self.calls += 1;
+        self.steps += u64::from(steps);
+        for record in outcome.output.chunks_exact(8).take(records as usize) {
+            add(&mut self.records, record[0].into());
+        }
+        if first {
+            add(&mut self.runs, outcome.number);
+            match outcome.number {
+                22 => add(&mut self.blocks, place),
+                24 => add(&mut self.lacking, case.table[8 * place as usize].into()),
+                _ => {}
+            }
+        }
+    }
+
     /// Whether every published number except 23 occurred, 22 at every record that can be at fault, 24 at every kind of
-    /// statement that needs a value, and every kind of log record.
+    /// statement that needs a value, every kind of log record, and chains of every end and of every length.
     pub fn is_whole(&self) -> bool {
         START_NUMBERS.iter().all(|number| self.starts.contains_key(number))
             && RUN_NUMBERS.iter().all(|number| self.runs.contains_key(number))
             && (0..=32).all(|record| self.blocks.contains_key(&record))
             && (3..=6).all(|kind| self.lacking.contains_key(&kind))
             && (1..=7).all(|kind| self.records.contains_key(&kind))
+            && WHY_NUMBERS.iter().all(|number| self.whys.contains_key(number))
+            && (1..=3).all(|end| self.ends.contains_key(&end))
+            && (1..=33).all(|count| self.chains.contains_key(&count))
     }
 }
 
@@ -89,6 +124,9 @@ impl fmt::Display for Coverage {
         writeln!(f, "cases by number of the start: {}", row(&self.starts))?;
         writeln!(f, "cases by state record of 22: {}", row(&self.blocks))?;
         writeln!(f, "cases by kind of the statement of 24: {}", row(&self.lacking))?;
-        writeln!(f, "log records by kind: {}", row(&self.records))
+        writeln!(f, "log records by kind: {}", row(&self.records))?;
+        writeln!(f, "questions why a state is stuck by number: {}", row(&self.whys))?;
+        writeln!(f, "chains by end: {}", row(&self.ends))?;
+        writeln!(f, "chains by how many numbers: {}", row(&self.chains))
     }
 }

@@ -1,28 +1,41 @@
-//! Random cases: tables, blocks, budgets and logs, that pass and that do not.
+//! Random cases: tables, blocks, budgets, logs and chains, that pass and that do not.
 
-use crate::block::{damage_block, random_block, BLOCK, TASKS, WAYS};
+use crate::block::{damage_block, random_block, waiting_block, BLOCK, TASKS, WAYS};
 use crate::case::{is_tame, Call, Case, TAME};
 use crate::damage::{damage_table, odd_length, raw_table};
 use crate::random::Random;
 use crate::recipe::Recipe;
-use crate::writer::{random_recipe, Style};
+use crate::writer::{random_recipe, waiting_recipe, Style};
 
-/// One random case.
+/// The bytes of a chain that is accepted.
+pub const CHAIN: usize = 66;
+
+/// One random case. Some are of recipes and blocks whose tasks wait.
 pub fn random_case(random: &mut Random) -> Case {
-    let style = Style::any(random);
-    let recipe = random_recipe(random, &style);
+    let waiting = random.percent(15);
+    let recipe = if waiting { waiting_recipe(random) } else { any_recipe(random) };
     let table = random_table(random, &recipe);
-    let fresh = random.percent(45);
-    let block = if fresh { old_content(random) } else { lent_block(random, &recipe) };
+    let fresh = !waiting && random.percent(45);
+    let block = match (fresh, waiting) {
+        (true, _) => old_content(random),
+        (_, true) => lent_block(random, &recipe, waiting_block),
+        _ => lent_block(random, &recipe, random_block),
+    };
     let count = random.pick(&[1, 1, 2, 3, 5]);
     let calls = (0..count).map(|_| random_call(random)).collect();
-    let mut case = Case { table, block, fresh, calls };
+    let chain = random_chain(random);
+    let mut case = Case { table, block, fresh, calls, chain };
     if !is_tame(&case) {
         for call in &mut case.calls {
             call.budget = call.budget.min(TAME);
         }
     }
     case
+}
+
+fn any_recipe(random: &mut Random) -> Recipe {
+    let style = Style::any(random);
+    random_recipe(random, &style)
 }
 
 fn random_table(random: &mut Random, recipe: &Recipe) -> Vec<u8> {
@@ -41,8 +54,8 @@ fn old_content(random: &mut Random) -> Vec<u8> {
 }
 
 /// A block that passes, mostly.
-fn lent_block(random: &mut Random, recipe: &Recipe) -> Vec<u8> {
-    let mut block = random_block(random, recipe);
+fn lent_block(random: &mut Random, recipe: &Recipe, passes: fn(&mut Random, &Recipe) -> Vec<u8>) -> Vec<u8> {
+    let mut block = passes(random, recipe);
     match random.below(100) {
         0..85 => {}
         85..97 => {
@@ -77,4 +90,10 @@ fn random_call(random: &mut Random) -> Call {
     };
     let rest = if random.percent(30) { random.below(8) } else { 0 };
     Call { budget, log: random.bytes(8 * records + rest) }
+}
+
+/// An output of the right length, mostly.
+fn random_chain(random: &mut Random) -> Vec<u8> {
+    let length = if random.percent(90) { CHAIN } else { random.within(0, 70) };
+    random.bytes(length)
 }

@@ -23,6 +23,8 @@ pub struct Recipe {
     pub table: Vec<u8>,
     /// The index of every statement and of the record after each procedure's last.
     pub places: Vec<u16>,
+    /// The index of every await and guard.
+    pub waits: Vec<u16>,
     /// The index of every expression's record.
     pub expressions: Vec<u16>,
     pub procedures: usize,
@@ -44,6 +46,9 @@ impl Recipe {
             PROCEDURE => self.procedures += 1,
             SKIP..=AWAIT | GUARD => self.places.push(at as u16),
             _ => self.expressions.push(at as u16),
+        }
+        if matches!(kind, AWAIT | GUARD) {
+            self.waits.push(at as u16);
         }
         self.table.extend([kind, name, 0, 0]);
         self.table.extend(value.to_le_bytes());

@@ -146,18 +146,19 @@ impl Shrinker<'_> {
         }
     }
 
-    /// Cuts bytes off the table and the block; a fresh block is simpler than a lent one.
+    /// Cuts bytes off the table, the block and the chain; a fresh block is simpler than a lent one.
     fn lengths(&mut self) {
         self.attempt(|case| case.fresh = true);
         for piece in [64, 8, 1] {
             while self.attempt(|case| cut(&mut case.table, piece)) {}
             while self.attempt(|case| cut(&mut case.block, piece)) {}
+            while self.attempt(|case| cut(&mut case.chain, piece)) {}
         }
     }
 
     /// Makes bytes 0: whole buffers, then records, then single bytes, else lowers them.
     fn zeros(&mut self) {
-        for buffer in 0..self.best.calls.len() + 2 {
+        for buffer in 0..self.best.calls.len() + 3 {
             let length = bytes(&mut self.best, buffer).len();
             for piece in [length.max(1), 64, 8, 1] {
                 for at in (0..length).step_by(piece) {
@@ -195,12 +196,13 @@ fn cut(bytes: &mut Vec<u8>, count: usize) {
     }
 }
 
-/// The table, the block, or a call's log.
+/// The table, the block, the chain, or a call's log.
 fn bytes(case: &mut Case, buffer: usize) -> &mut [u8] {
     match buffer {
         0 => &mut case.table,
         1 => &mut case.block,
-        _ => &mut case.calls[buffer - 2].log,
+        2 => &mut case.chain,
+        _ => &mut case.calls[buffer - 3].log,
     }
 }
 

@@ -1,6 +1,8 @@
 //! The benchmark's workloads: each is one call, made again and again from the same block.
 
+use crate::block::TASKS;
 use crate::case::Side;
+use crate::generate::CHAIN;
 use crate::recipe::{Recipe, AWAIT, GUARD, IF, QUOTIENT, SET, SKIP, SUSPEND, TWO};
 use std::hint::black_box;
 
@@ -14,6 +16,8 @@ const STEPS: u32 = 4_096;
 const WARM: u32 = 200;
 /// The records of the statements that a mixed table repeats.
 const MIX: usize = 11;
+/// The numbers of the longest chain: a circle of all tasks, closed.
+const LONGEST: u32 = TASKS as u32 + 1;
 
 /// What is called, and what the time is counted by.
 #[derive(Clone, Copy, Debug, PartialEq, Eq)]
@@ -26,6 +30,8 @@ pub enum Unit {
     Start,
     /// A start, by the table's records.
     Record,
+    /// A question why the state is stuck, by itself.
+    Why,
 }
 
 pub struct Workload {
@@ -51,31 +57,33 @@ impl Workload {
     pub fn units(&self) -> f64 {
         match self.unit {
             Unit::Step => f64::from(self.budget),
-            Unit::Call | Unit::Start => 1.0,
+            Unit::Call | Unit::Start | Unit::Why => 1.0,
             Unit::Record => (self.table.len() / 8) as f64,
         }
     }
 
-    /// Makes as many calls on a side. A run must use its budget up.
+    /// Makes as many calls on a side. A run must use its budget up, and a chain must be the longest one.
     pub fn make(&self, side: &Side, calls: u32) {
         let mut block = self.block.clone();
         let mut log = vec![0; 8 * STEPS as usize];
+        let mut chain = [0; CHAIN];
         for _ in 0..calls {
             block.copy_from_slice(&self.block);
             let table = black_box(&self.table);
             let good = match self.unit {
                 Unit::Start | Unit::Record => (side.start)(table, &mut block) == [0, 0],
+                Unit::Why => (side.why_stuck)(table, &block, &mut chain) == [0, LONGEST, 1, 0],
                 _ => (side.run)(table, &mut block, self.budget, &mut log)[..2] == [1, self.budget],
             };
             assert!(good, "{}", self.name);
-            black_box((&mut block, &mut log));
+            black_box((&mut block, &mut log, &mut chain));
         }
     }
 }
 
 /// All workloads, in the order of the report.
 pub fn workloads() -> Vec<Workload> {
-    use Unit::{Call, Record, Step};
+    use Unit::{Call, Record, Step, Why};
     vec![
         Workload::new("loop", Step, local_loop(), 0, STEPS),
         suspend(31),
@@ -86,6 +94,7 @@ pub fn workloads() -> Vec<Workload> {
         Workload::new("quotients", Step, quotients(), 0, STEPS),
         Workload::new("short-calls", Call, mixed_table(RECORDS), 100, 10),
         Workload::new("calls-with-tasks", Call, suspenders(32), WARM, 1),
+        Workload::new("why-stuck", Why, circle(), WARM, 0),
         Workload::new("check-flat", Record, flat_table(), 0, 0),
         Workload::new("check-expressions", Record, expression_table(), 0, 0),
     ]
@@ -169,6 +178,18 @@ fn waiters(tasks: usize) -> Recipe {
 fn guarded(tasks: usize) -> Recipe {
     let guard = |r: &mut Recipe| r.node(GUARD, 0, 0, |r| r.two(4, |r| r.read(64), |r| r.read(9)));
     first_and_others_with(tasks, |task| task as i32, guard)
+}
+
+/// All tasks in one circle: each waits for the one spawned after it, the last for the first.
+fn circle() -> Recipe {
+    let mut recipe = Recipe::new();
+    recipe.procedure(|r| {
+        (1..TASKS).for_each(|task| r.spawn(9, 1, ((task + 1) % TASKS + 1) as i32));
+        r.node(SET, 8, 0, |r| r.constant(2));
+        r.leaf(AWAIT, 8, 0);
+    });
+    recipe.procedure(|r| r.leaf(AWAIT, 64, 0));
+    recipe
 }
 
 /// Spawns a task that ends at once, and waits for it.
@@ -297,7 +318,7 @@ mod tests {
     use crate::case::{LIBRARY, MODEL};
 
     #[test]
-    fn each_call_is_accepted_and_uses_its_budget_up() {
+    fn each_call_is_accepted_and_does_what_is_measured() {
         for workload in workloads().into_iter().chain((1..=LEVELS).map(deep)) {
             workload.make(&MODEL, 1);
             workload.make(&LIBRARY, 1);

@@ -87,6 +87,21 @@ pub fn lively_recipe(random: &mut Random) -> Recipe {
     writer.recipe
 }
 
+/// A recipe with places to wait at: for the number in the parameter, which is likely, or in a variable, and at guards
+/// that are untrue or without a value; behind a random main procedure.
+pub fn waiting_recipe(random: &mut Random) -> Recipe {
+    let records = random.within(1, 12);
+    let style = Style { records, procedures: 1, deepest: 16, nesting: 30, wide: 20, spawns: 20, zeros: 30 };
+    let mut recipe = random_recipe(random, &style);
+    for name in [64, 64, 64, 8, 9, 63] {
+        recipe.procedure(|r| r.leaf(AWAIT, name, 0));
+    }
+    // The parameter is under 0; it is divided by 0.
+    recipe.procedure(|r| r.node(GUARD, 0, 0, |r| r.two(4, |r| r.read(64), |r| r.constant(0))));
+    recipe.procedure(|r| r.node(GUARD, 0, 0, |r| r.two(QUOTIENT, |r| r.read(64), |r| r.constant(0))));
+    recipe
+}
+
 struct Writer<'a> {
     random: &'a mut Random,
     style: &'a Style,

@@ -25,13 +25,13 @@ fn shrunk(side: &Side, seed: u64) -> Vec<Case> {
 
 /// A side that counts a turn as two steps.
 const COUNTS_TURNS_TWICE: Side = Side {
-    start: MODEL.start,
     run: |table, state, budget, log| {
         let mut answer = (MODEL.run)(table, state, budget, log);
         let written = log.as_chunks::<8>().0.iter().take(answer[2] as usize);
         answer[1] += written.filter(|record| record[0] == 5).count() as u32;
         answer
     },
+    ..MODEL
 };
 
 #[test]
@@ -49,7 +49,7 @@ const MISNAMES_NAMES: Side = Side {
         [14, place] => [15, place],
         other => other,
     },
-    run: MODEL.run,
+    ..MODEL
 };
 
 #[test]
@@ -63,7 +63,6 @@ fn a_wrong_refusal_shrinks_to_the_record_with_its_parents_and_operands() {
 
 /// A side that loses the log's last byte where a valve is set.
 const SPOILS_THE_LOG: Side = Side {
-    start: MODEL.start,
     run: |table, state, budget, log| {
         let answer = (MODEL.run)(table, state, budget, log);
         let written = log.as_chunks::<8>().0.iter().take(answer[2] as usize);
@@ -73,6 +72,7 @@ const SPOILS_THE_LOG: Side = Side {
         }
         answer
     },
+    ..MODEL
 };
 
 #[test]
@@ -86,11 +86,11 @@ fn a_spoilt_log_shrinks_to_one_valve() {
 
 /// A side that does not say where a value is missing.
 const LOSES_THE_PLACE: Side = Side {
-    start: MODEL.start,
     run: |table, state, budget, log| match (MODEL.run)(table, state, budget, log) {
         [24, steps, records, _] => [24, steps, records, 0],
         other => other,
     },
+    ..MODEL
 };
 
 #[test]
@@ -99,6 +99,23 @@ fn a_lost_place_shrinks_to_one_quotient() {
         assert_eq!(case.calls.len(), 1, "{case}");
         assert_eq!((case.calls[0].budget, case.calls[0].log.len()), (1, 0), "{case}");
         assert!(case.table.len() <= 40, "{case}");
+    }
+}
+
+/// A side that does not close a circle.
+const LEAVES_CIRCLES_OPEN: Side = Side {
+    why_stuck: |table, state, chain| match (MODEL.why_stuck)(table, state, chain) {
+        [0, count, 1, 0] => [0, count - 1, 1, 0],
+        other => other,
+    },
+    ..MODEL
+};
+
+#[test]
+fn an_open_circle_shrinks_to_a_few_waiters() {
+    for case in shrunk(&LEAVES_CIRCLES_OPEN, 11) {
+        assert_eq!((case.calls.len(), case.chain.len()), (0, 66), "{case}");
+        assert!(case.table.len() <= 24 && case.block[2] <= 3, "{case}");
     }
 }
 

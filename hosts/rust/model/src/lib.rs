@@ -1,9 +1,10 @@
 //! An independent model of the recipe runner, written from the documents alone.
 //!
-//! [`start`], [`run`] and [`print()`] are total functions on bytes. The modules follow the scope document's order, and
-//! each function names the rule that it stands for. It serves as the other side of the comparison tests, as the source
-//! of the stored cases and as the benchmark's baseline, so it is written the plain way, with care for speed: the table
-//! is read once a call into a vector of nodes, the live tasks are a ring, the state is changed in place.
+//! [`start`], [`run`], [`why_stuck`] and [`print()`] are total functions on bytes. The modules follow the scope
+//! document's order, and each function names the rule that it stands for. It serves as the other side of the comparison
+//! tests, as the source of the stored cases and as the benchmark's baseline, so it is written the plain way, with care
+//! for speed: the table is read once a call into a vector of nodes, the live tasks are a ring, the state is changed in
+//! place.
 
 mod table;
 
@@ -19,7 +20,10 @@ mod log;
 
 mod run;
 
+mod why;
+
 mod print;
 
 pub use print::print;
 pub use run::{run, start, Answer, Started};
+pub use why::{why_stuck, Explained};

@@ -1,4 +1,4 @@
-//! "What the runner says": the two operations, and the stops that are tried before each step.
+//! "What the runner says": start and run, and the stops that are tried before each step.
 
 use crate::log::Log;
 use crate::state::{State, BLOCK};
@@ -56,7 +56,7 @@ fn place(stop: Stop, state: &State) -> u32 {
 }
 
 /// The refusals in their order: the table's, then the block's.
-fn read(table: &[u8], block: &[u8]) -> Result<(Recipe, State), Fault> {
+pub fn read(table: &[u8], block: &[u8]) -> Result<(Recipe, State), Fault> {
     let recipe = Recipe::read(table)?;
     let state = State::read(block, &recipe)?;
     Ok((recipe, state))

@@ -30,7 +30,7 @@ pub enum Burst {
 impl State {
     /// What a task's expressions and awaits are worked out from.
     #[inline]
-    fn context<'a>(&'a self, recipe: &'a Recipe, task: &Task) -> Context<'a> {
+    pub fn context<'a>(&'a self, recipe: &'a Recipe, task: &Task) -> Context<'a> {
         Context { nodes: recipe.nodes(), variables: &self.variables, parameter: task.parameter }
     }
 

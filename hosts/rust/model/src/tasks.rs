@@ -90,6 +90,11 @@ impl Tasks {
         self.live -= 1;
     }
 
+    /// How many others stand before the live task of this number, if there is one.
+    pub fn position(&self, number: i32) -> Option<usize> {
+        (0..self.live).find(|&before| i32::from(self.at(before).number) == number)
+    }
+
     /// Whether a live task has this number, which is not 0.
     #[inline]
     pub fn has(&self, number: u16) -> bool {

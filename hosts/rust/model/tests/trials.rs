@@ -1,7 +1,7 @@
-//! The rows "From the trial press", rows for guards and for zero divisors, and the readings that look natural and are
-//! wrong.
+//! The rows "From the trial press", rows for guards, for zero divisors and for the chains of stuck states, and the
+//! readings that look natural and are wrong.
 
-use recipe_model::{print, run, start, Answer, Started};
+use recipe_model::{print, run, start, why_stuck, Answer, Explained, Started};
 
 type Row = (u8, u8, u16, i32);
 /// A log record: kind, task, valve, value.
@@ -487,6 +487,221 @@ fn a_run_may_stop_between_turns() {
     for budget in 1..8 {
         for log in [8, 16, 31, 480] {
             assert_eq!(slices(&rows, 60, budget, log), whole, "budget {budget}, log {log}");
+        }
+    }
+}
+
+/// Why a state is stuck: what is given, and the numbers written. Bytes past them keep their content.
+fn explained(table: &[u8], state: &[u8]) -> (Explained, Vec<u16>) {
+    let mut chain = [0xa5; 66];
+    let given = why_stuck(table, state, &mut chain);
+    let (written, kept) = chain.split_at(2 * given.count as usize);
+    assert!(kept.iter().all(|byte| *byte == 0xa5));
+    (given, written.as_chunks().0.iter().map(|pair| u16::from_le_bytes(*pair)).collect())
+}
+
+/// An accepted call's chain and its end.
+fn chain_of(table: &[u8], state: &[u8]) -> (Vec<u16>, u32) {
+    let (Explained { number, end, place, .. }, numbers) = explained(table, state);
+    assert_eq!((number, place), (0, 0));
+    (numbers, end)
+}
+
+/// The chain of the state that a run from a fresh state leaves.
+fn chain_after(rows: &[Row]) -> (Vec<u16>, u32) {
+    let table = table(rows);
+    let mut state = fresh(&table);
+    assert_eq!(run_from(&table, &mut state, 10_000).0.number, 2);
+    chain_of(&table, &state)
+}
+
+const fn refused(number: u32, place: u32) -> Explained {
+    Explained { number, count: 0, end: 0, place }
+}
+
+const NOT_STUCK: Explained = refused(25, 0);
+
+/// Places for tasks that wait for the number in their parameter, at a guard over it, at a guard over 5 by it, for the
+/// number in variable 8, and that give way.
+const WAITERS: [Row; 14] = [
+    (1, 0, 1, 0),
+    (8, 64, 0, 0),
+    (1, 0, 2, 0),
+    (13, 0, 1, 0),
+    (10, 64, 0, 0),
+    (1, 0, 4, 0),
+    (13, 0, 3, 0),
+    (11, 3, 2, 0),
+    (9, 0, 0, 5),
+    (10, 64, 0, 0),
+    (1, 0, 1, 0),
+    (8, 8, 0, 0),
+    (1, 0, 1, 0),
+    (7, 0, 0, 0),
+];
+const OWN: u16 = 1;
+const GUARD: u16 = 3;
+const SHARE: u16 = 6;
+const SHARED: u16 = 11;
+const GIVES_WAY: u16 = 13;
+
+/// A state without an active task: the highest number issued, and the queue as number, place and parameter.
+fn idle(issued: u16, queue: &[(u16, u16, i32)]) -> Vec<u8> {
+    let mut state = vec![0; 520];
+    state[..2].copy_from_slice(&issued.to_le_bytes());
+    state[2] = queue.len() as u8;
+    for (record, (number, place, parameter)) in state[8..].chunks_exact_mut(8).zip(queue) {
+        record[..2].copy_from_slice(&number.to_le_bytes());
+        record[2..4].copy_from_slice(&place.to_le_bytes());
+        record[4..].copy_from_slice(&parameter.to_le_bytes());
+    }
+    state
+}
+
+#[test]
+fn the_chains_of_c_and_d() {
+    assert_eq!(chain_after(&[(1, 0, 1, 0), (8, 8, 0, 0)]), (vec![1], 2));
+    assert_eq!(chain_after(&[(1, 0, 3, 0), (3, 8, 1, 0), (9, 0, 0, 1), (8, 8, 0, 0)]), (vec![1, 1], 1));
+}
+
+#[test]
+fn a_chain_begins_at_the_front() {
+    // Main awaits task 2, which awaits main and stands before it in the queue.
+    let main = [(1, 0, 3, 0), (6, 8, 1, 1), (9, 0, 0, 1), (8, 8, 0, 0)];
+    let child = [(1, 0, 1, 0), (8, 64, 0, 0)];
+    assert_eq!(chain_after(&[&main[..], &child].concat()), (vec![2, 1, 2], 1));
+    // Tasks 1 and 2 wait for each other; task 3 waits for one of them, or is not in the chain.
+    let mut queue = [(3, OWN, 1), (1, OWN, 2), (2, OWN, 1)];
+    let mut chains = Vec::new();
+    for _ in 0..3 {
+        chains.push(chain_of(&table(&WAITERS), &idle(3, &queue)));
+        queue.rotate_left(1);
+    }
+    assert_eq!(chains, [(vec![3, 1, 2, 1], 1), (vec![1, 2, 1], 1), (vec![2, 1, 2], 1)]);
+}
+
+#[test]
+fn a_chain_may_end_at_a_guard() {
+    let waiters = table(&WAITERS);
+    for guard in [GUARD, SHARE] {
+        assert_eq!(chain_of(&waiters, &idle(7, &[(5, guard, 0)])), (vec![5], 3));
+        let queue = [(7, OWN, 2), (5, guard, 0), (3, OWN, 5), (2, OWN, 3)];
+        assert_eq!(chain_of(&waiters, &idle(7, &queue)), (vec![7, 2, 3, 5], 3));
+        // A front at a guard is the whole chain, whatever the others wait for.
+        let queue = [(5, GUARD, 0), (7, guard, 0), (3, OWN, 3)];
+        assert_eq!(chain_of(&waiters, &idle(7, &queue)), (vec![5], 3));
+    }
+    // The share of 5 by 6 is 0, which is untrue.
+    assert_eq!(chain_of(&waiters, &idle(7, &[(5, SHARE, 6)])), (vec![5], 3));
+}
+
+#[test]
+fn a_chain_goes_on_to_a_live_task_and_ends_at_a_number_never_issued() {
+    // With 4 issued and tasks 1 and 3 live, 2 and 4 are done. Task 3 waits for task 1.
+    for awaited in (-4..=9).chain([i32::MIN, -65_533, 65_535, 65_536, 65_537, 65_539, i32::MAX]) {
+        let given = explained(&table(&WAITERS), &idle(4, &[(1, OWN, awaited), (3, OWN, 1)]));
+        let accepted = |count, end| Explained { number: 0, count, end, place: 0 };
+        let expected = match awaited {
+            1 => (accepted(2, 1), vec![1, 1]),
+            3 => (accepted(3, 1), vec![1, 3, 1]),
+            2 | 4 => (NOT_STUCK, vec![]),
+            _ => (accepted(1, 2), vec![1]),
+        };
+        assert_eq!(given, expected, "{awaited}");
+    }
+}
+
+#[test]
+fn the_awaited_variable_is_read_for_the_chain() {
+    let queue = [(1, SHARED, 2), (2, SHARED, 1)];
+    for (value, expected) in [(1, (vec![1, 1], 1)), (2, (vec![1, 2, 2], 1)), (3, (vec![1], 2))] {
+        let mut state = idle(2, &queue);
+        state[264 + 4 * 8] = value;
+        assert_eq!(chain_of(&table(&WAITERS), &state), expected);
+    }
+}
+
+#[test]
+fn the_longest_chains() {
+    let waiters = table(&WAITERS);
+    // The front is 1_000; each waits for the one after it in this order, which is not the queue's.
+    let number = |i: usize| 1_000 + (i * 7 % 32) as u16;
+    let order: Vec<u16> = (0..32).map(number).collect();
+    let queue = |last: (u16, i32)| {
+        let next = |i: usize| if i == 31 { last } else { (OWN, number(i + 1).into()) };
+        let mut queue: Vec<_> = (0..32).map(|i| (number(i), next(i).0, next(i).1)).collect();
+        queue[1..].sort();
+        queue
+    };
+    for back in [0, 1, 15, 30, 31] {
+        let circle = [&order[..], &[order[back]]].concat();
+        assert_eq!(chain_of(&waiters, &idle(1_031, &queue((OWN, order[back].into())))), (circle, 1), "{back}");
+    }
+    assert_eq!(chain_of(&waiters, &idle(1_031, &queue((OWN, 1_032)))), (order.clone(), 2));
+    assert_eq!(chain_of(&waiters, &idle(1_031, &queue((GUARD, 0)))), (order.clone(), 3));
+    assert_eq!(chain_of(&waiters, &idle(1_031, &queue((SHARE, 0)))), (order, 3));
+    assert_eq!(explained(&waiters, &idle(1_031, &queue((GUARD, 1)))), (NOT_STUCK, vec![]));
+    assert_eq!(explained(&waiters, &idle(1_031, &queue((OWN, 999)))), (NOT_STUCK, vec![]));
+}
+
+#[test]
+fn states_that_are_not_stuck() {
+    let waiters = table(&WAITERS);
+    let mut active = idle(3, &[(1, OWN, 1), (2, OWN, 2)]);
+    active[3] = 1;
+    let states = [
+        fresh(&waiters),
+        // Finished.
+        idle(1, &[]),
+        // The front waits, and another one is ready: it gives way, its guard is true, or it waits for a done number.
+        idle(3, &[(1, OWN, 1), (2, GIVES_WAY, 0)]),
+        idle(3, &[(1, OWN, 1), (2, GUARD, -1)]),
+        idle(3, &[(1, GUARD, 0), (2, SHARE, 5)]),
+        idle(3, &[(1, OWN, 2), (2, OWN, 3)]),
+        // At a procedure's end.
+        idle(3, &[(1, OWN, 1), (2, 14, 0)]),
+        active,
+    ];
+    for (i, state) in states.iter().enumerate() {
+        assert_eq!(explained(&waiters, state), (NOT_STUCK, vec![]), "{i}");
+    }
+}
+
+#[test]
+fn outputs_of_other_lengths() {
+    let waiters = table(&WAITERS);
+    let stuck = idle(3, &[(1, OWN, 1)]);
+    for length in [0, 1, 2, 4, 64, 65, 67, 68, 132, 520] {
+        let mut chain = vec![0xa5; length];
+        assert_eq!(why_stuck(&waiters, &stuck, &mut chain), NOT_STUCK, "{length}");
+        assert_eq!(chain, vec![0xa5; length]);
+    }
+    assert_eq!(chain_of(&waiters, &stuck), (vec![1, 1], 1));
+}
+
+#[test]
+fn refusals_of_a_chain_in_their_order() {
+    let (waiters, stuck) = (table(&WAITERS), idle(3, &[(1, OWN, 1)]));
+    let unnamed = table(&[(1, 0, 1, 0), (8, 65, 0, 0)]);
+    let unknown = table(&[(1, 0, 3, 0), (8, 8, 0, 0), (6, 8, 1, 1), (9, 0, 0, 0)]);
+    let (finished, displaced) = (idle(1, &[]), idle(3, &[(1, OWN, 1), (2, 4, 0)]));
+    let none_issued = idle(0, &[(1, OWN, 1)]);
+    let calls: [(&[u8], &[u8], Explained); 9] = [
+        (&[], &[], refused(11, 0)),
+        (&unnamed, &stuck, refused(14, 1)),
+        (&unnamed, &stuck[1..], refused(14, 1)),
+        (&unknown, &displaced, refused(17, 2)),
+        (&waiters, &stuck[1..], refused(21, 0)),
+        (&waiters, &[], refused(21, 0)),
+        (&waiters, &none_issued, refused(22, 0)),
+        (&waiters, &displaced, refused(22, 2)),
+        (&waiters, &finished, NOT_STUCK),
+    ];
+    for (i, (table, state, expected)) in calls.into_iter().enumerate() {
+        for length in [0, 65, 66, 67] {
+            let mut chain = vec![0xa5; length];
+            assert_eq!(why_stuck(table, state, &mut chain), expected, "{i} {length}");
+            assert_eq!(chain, vec![0xa5; length]);
         }
     }
 }

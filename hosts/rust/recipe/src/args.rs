@@ -6,10 +6,12 @@ use std::path::{Path, PathBuf};
 use crate::failure::Failure;
 use crate::words::quoted;
 
-/// The options that a subcommand knows.
+/// The files and options that a subcommand knows.
 #[derive(Clone, Copy, Debug)]
 pub struct Options {
     pub command: &'static str,
+    /// What the help text calls the files, in their order.
+    pub files: &'static [&'static str],
     /// Options with a value behind them.
     pub valued: &'static [&'static str],
     pub flags: &'static [&'static str],
@@ -18,7 +20,7 @@ pub struct Options {
 /// What was given.
 #[derive(Debug, Default)]
 pub struct Given {
-    file: Option<OsString>,
+    files: Vec<OsString>,
     values: Vec<(&'static str, OsString)>,
     flags: Vec<&'static str>,
 }
@@ -34,11 +36,11 @@ impl Options {
                 Some(text) if options && text.len() > 1 && text.starts_with('-') => {
                     self.option(&mut given, text, &mut arguments)?;
                 }
-                _ if given.file.is_some() => {
-                    let name = quoted(&argument.to_string_lossy());
-                    return Err(self.wrong(format!("one FILE is taken, and {name} is a second")));
+                _ if given.files.len() == self.files.len() => {
+                    let (name, taken) = (quoted(&argument.to_string_lossy()), self.files.join(" and "));
+                    return Err(self.wrong(format!("{name} is one file too many after {taken}")));
                 }
-                _ => given.file = Some(argument.clone()),
+                _ => given.files.push(argument.clone()),
             }
         }
         Ok(given)
@@ -93,12 +95,24 @@ impl Options {
     /// The name of a state's file given with an option.
     pub fn state<'g>(&self, given: &'g Given, option: &str) -> Result<Option<&'g Path>, Failure> {
         match given.value(option) {
-            Some(value) if value == "-" || value.is_empty() => {
-                Err(self.wrong(format!("{option} takes the name of a file")))
-            }
+            Some(value) if names_none(value) => Err(self.wrong(format!("{option} takes the name of a file"))),
             value => Ok(value.map(Path::new)),
         }
     }
+
+    /// The name of a file that cannot be left out or be standard input, the one at `index` of those taken.
+    pub fn due<'g>(&self, given: &'g Given, index: usize) -> Result<&'g Path, Failure> {
+        let file = given.files.get(index).filter(|file| !names_none(file)).map(Path::new);
+        file.ok_or_else(|| {
+            let missing = self.files.get(index.min(given.files.len())).copied().unwrap_or("FILE");
+            self.wrong(format!("{missing} is missing: the name of a file is due"))
+        })
+    }
+}
+
+/// Whether a name is no file's of its own: standard input's, or an empty one.
+fn names_none(file: &OsStr) -> bool {
+    file == "-" || file.is_empty()
 }
 
 impl Given {
@@ -112,7 +126,7 @@ impl Given {
 
     /// The file to read, none for standard input.
     pub fn input(&self) -> Option<PathBuf> {
-        self.file.as_ref().filter(|file| *file != "-").map(PathBuf::from)
+        self.files.first().filter(|file| *file != "-").map(PathBuf::from)
     }
 
     /// The file to write, none for standard output.
@@ -125,10 +139,16 @@ impl Given {
 mod tests {
     use super::*;
 
-    const OPTIONS: Options = Options { command: "run", valued: &["--budget", "-o"], flags: &["--quiet"] };
+    const OPTIONS: Options =
+        Options { command: "run", files: &["FILE"], valued: &["--budget", "-o"], flags: &["--quiet"] };
+    const TWO: Options = Options { command: "why", files: &["TABLE", "STATE"], valued: &[], flags: &[] };
+
+    fn given(options: Options, arguments: &[&str]) -> Result<Given, Failure> {
+        options.read(&arguments.iter().map(OsString::from).collect::<Vec<_>>())
+    }
 
     fn read(arguments: &[&str]) -> Result<Given, Failure> {
-        OPTIONS.read(&arguments.iter().map(OsString::from).collect::<Vec<_>>())
+        given(OPTIONS, arguments)
     }
 
     #[test]
@@ -141,6 +161,22 @@ mod tests {
         assert_eq!(OPTIONS.number(&given, "--log", 9, 1), Ok(1));
         assert_eq!(read(&["-"]).unwrap().input(), None);
         assert_eq!(read(&["--", "--quiet"]).unwrap().input(), Some(PathBuf::from("--quiet")));
+    }
+
+    #[test]
+    fn files_are_read_in_their_order() {
+        let both = given(TWO, &["t", "s"]).unwrap();
+        assert_eq!((both.input(), TWO.due(&both, 1)), (Some(PathBuf::from("t")), Ok(Path::new("s"))));
+        for (arguments, told) in [
+            (&[][..], "recipe: why: TABLE is missing: "),
+            (&["t"], "recipe: why: STATE is missing: "),
+            (&["t", "-"], "recipe: why: STATE is missing: "),
+            (&["t", ""], "recipe: why: STATE is missing: "),
+            (&["t", "s", "x"], "recipe: why: \"x\" is one file too many after TABLE and STATE"),
+        ] {
+            let wrong = given(TWO, arguments).and_then(|given| TWO.due(&given, 1).map(PathBuf::from)).unwrap_err();
+            assert_eq!((wrong.status, wrong.message.starts_with(told)), (2, true), "{}", wrong.message);
+        }
     }
 
     #[test]

@@ -20,9 +20,10 @@ pub enum Wait {
 }
 
 /// A live task.
-struct Task {
-    number: u16,
-    place: u16,
+pub struct Task {
+    pub number: u16,
+    /// The record of its next statement.
+    pub place: u16,
     parameter: i32,
 }
 
@@ -37,7 +38,7 @@ impl Task {
     }
 
     /// The await or guard that is the task's next statement.
-    fn wait(&self, table: &[Record], state: &State) -> Option<Wait> {
+    pub fn wait(&self, table: &[Record], state: &State) -> Option<Wait> {
         let next = table.get(usize::from(self.place))?;
         match next.kind {
             kind::AWAIT if next.name == PARAMETER => Some(Wait::Await(self.parameter)),
@@ -54,7 +55,7 @@ pub fn standing(state: &State, table: &[Record]) -> BTreeMap<u16, Wait> {
 }
 
 /// The queued tasks, from the front.
-fn queue(state: &State) -> impl Iterator<Item = Task> + '_ {
+pub fn queue(state: &State) -> impl Iterator<Item = Task> + '_ {
     let block = state.as_bytes();
     let [_, _, live, active, ..] = *block;
     let tasks = block.chunks_exact(RECORD).skip(1).take(usize::from(live));

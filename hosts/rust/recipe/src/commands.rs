@@ -4,7 +4,7 @@ use std::ffi::OsString;
 use std::io::{self, BufWriter, Write};
 use std::path::Path;
 
-use recipe_runner::{records, Ending, Ran, Record, Refusal, State, RECORD, STATE};
+use recipe_runner::{records, Chain, Ending, Ran, Record, Refusal, State, RECORD, STATE};
 
 use crate::args::{Given, Options};
 use crate::course::Course;
@@ -14,7 +14,7 @@ use crate::picture::{self, Heading};
 use crate::table::{decode, depths, describe, describe_lacking, kind};
 use crate::timeline::Timeline;
 use crate::words::{counted, quoted};
-use crate::{asm, help, listing, raw};
+use crate::{asm, help, listing, raw, why};
 
 /// The budget of a run, unless given.
 const BUDGET: u32 = 10_000;
@@ -24,12 +24,18 @@ const LOG: u32 = 4_096;
 const LONGEST_LOG: u32 = 1 << 24;
 const LONGEST_TIMELINE: u32 = 1 << 16;
 
-const ASM: Options = Options { command: "asm", valued: &["-o"], flags: &[] };
-const DIS: Options = Options { command: "dis", valued: &[], flags: &["--raw"] };
-const CHECK: Options = Options { command: "check", valued: &[], flags: &[] };
-const RUN: Options =
-    Options { command: "run", valued: &["--budget", "--log", "--save", "--resume"], flags: &["--quiet", "--strict"] };
-const TIMELINE: Options = Options { command: "timeline", valued: &["--budget", "--log", "-o"], flags: &[] };
+const ASM: Options = Options { command: "asm", files: &["FILE"], valued: &["-o"], flags: &[] };
+const DIS: Options = Options { command: "dis", files: &["FILE"], valued: &[], flags: &["--raw"] };
+const CHECK: Options = Options { command: "check", files: &["FILE"], valued: &[], flags: &[] };
+const RUN: Options = Options {
+    command: "run",
+    files: &["FILE"],
+    valued: &["--budget", "--log", "--save", "--resume"],
+    flags: &["--quiet", "--strict"],
+};
+const WHY: Options = Options { command: "why", files: &["TABLE", "STATE"], valued: &[], flags: &[] };
+const TIMELINE: Options =
+    Options { command: "timeline", files: &["FILE"], valued: &["--budget", "--log", "-o"], flags: &[] };
 
 /// Carries out a command line; the exit status is returned, or the failure to tell.
 pub fn dispatch(arguments: &[OsString]) -> Result<u8, Failure> {
@@ -47,6 +53,7 @@ pub fn dispatch(arguments: &[OsString]) -> Result<u8, Failure> {
         "dis" => dis(&DIS.read(rest)?),
         "check" => check(&CHECK.read(rest)?),
         "run" => run(&RUN.read(rest)?),
+        "why" => why(&WHY.read(rest)?),
         "timeline" => timeline(&TIMELINE.read(rest)?),
         "--help" | "-h" => print(help::TOOL),
         "help" => help(rest),
@@ -137,26 +144,47 @@ fn run(given: &Given) -> Result<u8, Failure> {
             show(records(&log, shown), &format!("{} {}", ran.ending, ran.steps))
                 .map_err(|error| unsaved(&error, save))?;
             save.map_or(Ok(()), |path| files::write(Some(path), state.as_bytes()))?;
-            tell_lacking(&loaded, ran.ending);
+            tell(&ending_words(&loaded, &state, ran.ending));
             let strict = given.flag("--strict") && ran.ending != Ending::Finished;
             Ok(if strict { UNFINISHED } else { 0 })
         }
-        Err(refusal) => {
-            show([].into_iter(), &refusal.to_string()).map_err(|error| files::printed(&error))?;
-            Err(refused(&loaded.name, &loaded.table, refusal))
-        }
+        Err(refusal) => Err(printed_refusal(&loaded, refusal)),
     }
 }
 
-/// Tells on standard error which statement has no value: with its line where the text is at hand, else by its record.
-fn tell_lacking(Loaded { name, table, source }: &Loaded, ending: Ending) {
-    let Ending::Novalue { place } = ending else { return };
-    let told = match source {
+/// Prints a refusal as the library gives it; the failure has it in words.
+fn printed_refusal(Loaded { name, table, .. }: &Loaded, refusal: Refusal) -> Failure {
+    match show([].into_iter(), &refusal.to_string()) {
+        Ok(()) => refused(name, table, refusal),
+        Err(error) => files::printed(&error),
+    }
+}
+
+/// What is to be told of an ending beside its word, in lines.
+fn ending_words(loaded: &Loaded, state: &State, ending: Ending) -> Vec<String> {
+    match ending {
+        Ending::Novalue { place } => vec![lacking(loaded, place)],
+        // A state that a run left stuck has a chain.
+        Ending::Stuck => state.why_stuck(&loaded.table).map_or(Vec::new(), |chain| why::lines(loaded, state, &chain)),
+        _ => Vec::new(),
+    }
+}
+
+/// Which statement has no value: with its line where the text is at hand, else by its record.
+fn lacking(Loaded { name, table, source }: &Loaded, place: u32) -> String {
+    match source {
         Some(Source { text, records }) => asm::lacking(place, records).show(name, text),
         None => format!("{name}: {}", describe_lacking(table, place)),
-    };
-    // The ending is printed; nothing is left to do where standard error is closed.
-    let _ = writeln!(io::stderr(), "{told}");
+    }
+}
+
+/// Tells lines on standard error.
+fn tell(lines: &[String]) {
+    let mut errors = io::stderr().lock();
+    for line in lines {
+        // The ending is printed; nothing is left to do where standard error is closed.
+        let _ = writeln!(errors, "{line}");
+    }
 }
 
 /// One run call, from a fresh state or a saved one. As in the library the table is looked at first.
@@ -165,6 +193,27 @@ fn call(table: &[u8], block: Option<&[u8]>, budget: u32, log: &mut [u8]) -> Resu
     let mut state = block.map_or(Ok(fresh), State::from_bytes)?;
     let ran = state.run(table, budget, log)?;
     Ok((state, ran))
+}
+
+fn why(given: &Given) -> Result<u8, Failure> {
+    let state = WHY.due(given, 1)?;
+    let loaded = files::load(given.input().as_deref())?;
+    let block = files::read(Some(state), STATE)?;
+    match explained(&loaded.table, &block) {
+        Ok((state, chain)) => {
+            let lines: String = why::lines(&loaded, &state, &chain).iter().map(|line| format!("{line}\n")).collect();
+            print(&lines)
+        }
+        Err(refusal) => Err(printed_refusal(&loaded, refusal)),
+    }
+}
+
+/// The chain of a saved state. As in the library the table is looked at first.
+fn explained(table: &[u8], block: &[u8]) -> Result<(State, Chain), Refusal> {
+    State::start(table)?;
+    let state = State::from_bytes(block)?;
+    let chain = state.why_stuck(table)?;
+    Ok((state, chain))
 }
 
 /// Prints a line for each record and a last one.

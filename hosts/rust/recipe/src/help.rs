@@ -7,6 +7,7 @@ pub fn of(command: &str) -> Option<&'static str> {
         "dis" => DIS,
         "check" => CHECK,
         "run" => RUN,
+        "why" => WHY,
         "timeline" => TIMELINE,
         _ => return None,
     })
@@ -21,11 +22,12 @@ usage: recipe SUBCOMMAND [FILE] [OPTIONS]
   dis       a table to text
   check     whether a table is accepted, with its counts or its fault
   run       runs a recipe and prints its log and ending
+  why       who waits for whom in the saved state of a run that is stuck
   timeline  draws a run as an SVG picture
 
 FILE may be left out or \"-\" for standard input. A name that ends in \".recipe\"
 is text and is assembled first; any other file, and standard input, is a table
-(for asm always text).
+(for asm always text). why takes two files, a TABLE and a STATE.
 \"recipe SUBCOMMAND --help\" tells more.
 
 exit status: 0 all went well
@@ -105,8 +107,9 @@ usage: recipe run [FILE] [OPTIONS]
 Runs a table, or text whose name ends in \".recipe\". Prints a line for each log
 record (kind, task, valve, value), then the ending and the steps; or \"refused\"
 with number and place (exit status 1). The value of \"waits\" and \"turned\" is the
-number awaited, 0 at a guard. Of the ending \"novalue\" the statement is told on
-standard error: its line, or its record where the file is a table.
+number awaited, 0 at a guard. Standard error tells more of two endings: of
+\"novalue\" the statement, by its line, or its record where the file is a table;
+of \"stuck\" who waits for whom, as \"recipe why\" does.
 
   --budget N        the most steps, 0 to 4294967295 (10000)
   --log RECORDS     the log's room, 0 to 16777216 records (4096)
@@ -124,13 +127,34 @@ endings: finished  no task is left
          novalue   the next set, test or spawn divides by 0: it is not done
 ";
 
+const WHY: &str = "\
+usage: recipe why TABLE STATE
+
+Tells why a run is stuck: who waits for whom, from the front of the ready queue.
+TABLE is a table, or text whose name ends in \".recipe\"; STATE is the file that
+\"recipe run --save\" wrote. Each task waits for the one of the next line:
+
+    task 3 waits for task 1 (record 12, variable 8)
+    task 1 waits for task 2 (record 7, variable 9)
+    task 2 waits for task 1 (record 10, its parameter): a circle of 2 tasks
+
+The record is that of the await or guard, the variable has the number awaited;
+of text the line is told, too. The last line tells what the chain ends in: a
+task named before, which closes a circle; a number that was never issued; or a
+guard that is untrue, as one that divides by 0 is, too.
+
+A state that is not stuck is refused (exit status 1). A refused table or state
+is told as by \"recipe run --resume\".
+";
+
 const TIMELINE: &str = "\
 usage: recipe timeline [FILE] [OPTIONS]
 
 Runs a table, or text whose name ends in \".recipe\", and draws what each task
 does as an SVG picture: a lane for each task, time from left to right in log
-records. A wait is drawn with the number awaited, or as one at a guard. A sign
-marks the task that a missing value stopped.
+records. A wait is drawn with the number awaited, or as one at a guard. Of a run
+that is stuck, each task's lane ends in what it waits for. A sign marks the task
+that a missing value stopped.
 
   --budget N        the most steps, 0 to 4294967295 (10000)
   --log RECORDS     the log's room, 0 to 65536 records (4096)

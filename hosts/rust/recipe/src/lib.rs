@@ -22,4 +22,5 @@ pub mod source;
 pub mod svg;
 pub mod table;
 pub mod timeline;
+pub mod why;
 pub mod words;

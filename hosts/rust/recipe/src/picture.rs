@@ -25,6 +25,8 @@ const TURN: f64 = 3.2;
 const VALVE: f64 = 4.5;
 /// Half the height of the sign where a missing value stopped the run.
 const STOP: f64 = 8.0;
+/// The space between a lane and what its task waits for where the run is stuck.
+const HELD: f64 = 6.0;
 /// The height of a flag with a valve's setting, and of the row it stands in.
 const FLAG: f64 = 13.0;
 const FLAG_ROW: f64 = 15.0;
@@ -115,6 +117,7 @@ pub fn draw(timeline: &Timeline, heading: &Heading) -> String {
         arrow(&mut svg, &plan, spawn);
     }
     for row in &plan.rows {
+        notes(&mut svg, &plan, row);
         marks(&mut svg, &plan, row);
     }
     if let Some(lacking) = &timeline.lacking {
@@ -190,13 +193,20 @@ fn arrow_at(svg: &mut Svg, x: f64, from: f64, to: f64, tip: &str) {
     svg.polygon("head", &[(x, to), (x - 3.5, to - 7.0), (x + 3.5, to - 7.0)], tip);
 }
 
-/// Turns, the end, valves and what is waited for.
+/// What is waited for, in the course of the run and at its end.
+fn notes(svg: &mut Svg, plan: &Plan, row: &Row) {
+    let class = |wait| if wait == Wait::Guard { "note guardnote" } else { "note" };
+    for (x, wait) in &row.notes {
+        svg.text(class(*wait), (*x, row.middle + BURST + NOTE_SIZE), &note_text(*wait));
+    }
+    if let Some(wait) = row.lane.held {
+        svg.text(class(wait), (plan.end + HELD, row.middle + 0.35 * NOTE_SIZE), &held_text(wait));
+    }
+}
+
+/// Turns, the end and valves.
 fn marks(svg: &mut Svg, plan: &Plan, row: &Row) {
     let Lane { turns, settings, ended, .. } = row.lane;
-    for (x, wait) in &row.notes {
-        let class = if *wait == Wait::Guard { "note guardnote" } else { "note" };
-        svg.text(class, (*x, row.middle + BURST + NOTE_SIZE), &note_text(*wait));
-    }
     for turn in turns {
         let tip = format!("task {} turned: {}", row.task, why(turn.wait));
         svg.circle("turn", (plan.x(turn.at), row.middle), (0.36 * plan.cell).clamp(0.8, TURN), &tip);
@@ -241,6 +251,18 @@ fn note_text(wait: Wait) -> String {
 
 fn note_width(wait: Wait) -> f64 {
     text_width(&note_text(wait), NOTE_SIZE) + 4.0
+}
+
+/// A wait as the end of a stuck task's lane has it.
+fn held_text(wait: Wait) -> String {
+    match wait {
+        Wait::Await(number) => format!("waits for {number}"),
+        Wait::Guard => "at a guard".to_string(),
+    }
+}
+
+fn held_width(wait: Wait) -> f64 {
+    HELD + text_width(&held_text(wait), NOTE_SIZE)
 }
 
 fn flag_top(row: &Row, flag: usize) -> f64 {

@@ -59,6 +59,8 @@ pub struct Lane {
     pub turns: Vec<Turn>,
     pub settings: Vec<Setting>,
     pub ended: Option<f64>,
+    /// What the task waits for where the run is stuck, by the last state.
+    pub held: Option<Wait>,
 }
 
 impl Lane {
@@ -78,6 +80,11 @@ impl Lane {
         if let Some(bar) = self.bars.last_mut().filter(|bar| bar.doing == Doing::Queued && bar.to.is_none()) {
             bar.doing = Doing::Waits(wait);
         }
+    }
+
+    fn is_held(&mut self, wait: Wait) {
+        self.is_seen_to_wait(wait);
+        self.held = Some(wait);
     }
 }
 
@@ -107,9 +114,7 @@ impl Timeline {
         }
         match course.ending {
             // Every queued task waits at what it stands at.
-            Ending::Stuck => {
-                course.standing.iter().for_each(|(task, wait)| timeline.lane(*task).is_seen_to_wait(*wait));
-            }
+            Ending::Stuck => course.standing.iter().for_each(|(task, wait)| timeline.lane(*task).is_held(*wait)),
             Ending::Novalue { place } => timeline.lacking = timeline.active().map(|task| Lacking { task, place }),
             _ => {}
         }
@@ -199,12 +204,15 @@ mod tests {
         let standing = [(2, Wait::Await(8)), (3, Wait::Guard), (4, Wait::Await(0))];
         let bar = |doing, from| [Bar { doing, from, to: None }];
         let stuck = Timeline::of(&course(&log, Ending::Stuck, &standing));
-        // The number at the turn stays.
+        // The bar keeps the number at the turn; the lane's end has the one of the last state.
         assert_eq!(stuck.lanes[&2].bars, bar(Doing::Waits(Wait::Await(9)), 0.5));
         assert_eq!(stuck.lanes[&3].bars, bar(Doing::Waits(Wait::Guard), 1.5));
         assert_eq!(stuck.lanes[&4].bars, bar(Doing::Waits(Wait::Await(0)), 2.5));
+        let held = [1, 2, 3, 4].map(|task| stuck.lanes[&task].held);
+        assert_eq!(held, [None, Some(Wait::Await(8)), Some(Wait::Guard), Some(Wait::Await(0))]);
         let paused = Timeline::of(&course(&log, Ending::Paused, &standing));
         assert_eq!(paused.lanes[&3].bars, bar(Doing::Queued, 1.5));
+        assert!(paused.lanes.values().all(|lane| lane.held.is_none()));
     }
 
     #[test]

@@ -163,6 +163,7 @@ fn refused_tables_are_told() {
         (&["run", "t"], "refused 13 1\n"),
         (&["dis", "t"], ""),
         (&["dis", "t", "--raw"], "1(0,1,0)\n    3(8,0,0)    # fault 13: the span does not fit\n"),
+        (&["why", "t", "t"], "refused 13 1\n"),
         (&["timeline", "t"], ""),
     ] {
         let output = recipe(&d, arguments, b"");
@@ -255,12 +256,16 @@ fn exit_statuses() {
         (2, &["run", "a.recipe", "--resume", "missing"]),
         (2, &["run", "a.recipe", "--save", "-"]),
         (2, &["run", "a.recipe", "--save", "a.recipe"]),
+        (1, &["why", "a.recipe", "a.recipe"]),
+        (2, &["why", "a.recipe"]),
+        (2, &["why", "a.recipe", "missing"]),
         (2, &["asm", "missing.recipe"]),
         (2, &["help", "press"]),
     ] {
         let output = recipe(&d, arguments, b"");
         assert_eq!(status(&output), due, "{arguments:?}");
-        let quiet = due == 0 || due == 3;
+        // Of a stuck run it is told why.
+        let quiet = (due == 0 || due == 3) && !arguments.contains(&"stuck.recipe");
         assert_eq!(output.stderr.is_empty(), quiet, "{arguments:?}: {}", stderr(&output));
     }
     assert_eq!(files(&d), ["a.recipe", "stuck.recipe"]);
@@ -269,7 +274,7 @@ fn exit_statuses() {
 #[test]
 fn help_is_given() {
     let d = directory("help");
-    for command in ["asm", "dis", "check", "run", "timeline"] {
+    for command in ["asm", "dis", "check", "run", "why", "timeline"] {
         for arguments in [&[command, "--help"][..], &[command, "x", "-h"], &["help", command]] {
             let output = recipe(&d, arguments, b"");
             assert_eq!(status(&output), 0);

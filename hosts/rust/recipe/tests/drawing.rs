@@ -110,6 +110,37 @@ procedure share flow
     set valve0 flow / sensors
 ";
 
+/// Task 3 waits for task 1, tasks 1 and 2 for each other, task 4 at a guard.
+const CIRCLE: &str = "\
+procedure main
+    set first 1
+    spawn second press first
+    spawn third watch 0
+    spawn fourth hold 0
+    await second
+procedure press other
+    set valve1 other
+    await other
+procedure watch
+    await first
+procedure hold
+    set valve2 2147483647
+    guard 2 < pressure
+";
+
+/// Main is turned while it awaits 9; the number that it awaits is another one then, far behind in a wide picture.
+const CHANGED: &str = "\
+procedure main
+    set number 9
+    spawn a change 0
+    await number
+procedure change
+    while n < 99
+        suspend
+        set n n + 1
+    set number -2147483648
+";
+
 fn picture(text: &str, budget: u32) -> (String, Timeline) {
     let course = Course::of(&assemble(text).unwrap(), budget, &mut [0; 8 * 4_096]).unwrap();
     let timeline = Timeline::of(&course);
@@ -185,6 +216,8 @@ fn pictures_are_well_formed_and_texts_apart() {
         (GUARDS, 10_000, 4),
         (ZERO, 10_000, 3),
         (DIVISOR, 10_000, 3),
+        (CIRCLE, 10_000, 4),
+        (CHANGED, 10_000, 2),
         ("procedure main\n  set x 1 / 0\n", u32::MAX, 1),
     ] {
         let (document, timeline) = picture(text, budget);
@@ -212,6 +245,53 @@ fn the_picture_tells_what_happened() {
     }
     let (document, _) = picture(MANY, 10_000);
     assert!(document.contains("turned: "));
+}
+
+/// The words behind the end of the lanes, each with the lane's label.
+fn lane_ends(document: &str) -> Vec<(String, String)> {
+    let ends = document.split("<line class=\"end\"").skip(1).map(|line| attribute(line, "x1"));
+    // The legend has one, too.
+    let end = ends.last().unwrap();
+    let boxes = boxes(document);
+    let tells = |text: &str| text.starts_with("waits for ") || text == "at a guard";
+    let words = boxes.iter().filter(|(left, .., text)| *left > end && tells(text));
+    let labelled = words.map(|(_, top, _, bottom, text)| {
+        let beside = |(left, y0, _, y1, label): &&(f64, f64, f64, f64, String)| {
+            *left < end && label.starts_with("task ") && (y0 + y1 - top - bottom).abs() < 4.0
+        };
+        (boxes.iter().find(beside).unwrap().4.clone(), text.clone())
+    });
+    labelled.collect()
+}
+
+#[test]
+fn stuck_lanes_end_in_what_their_tasks_wait_for() {
+    for (text, budget, due) in [
+        (
+            CIRCLE,
+            10_000,
+            &[
+                ("task 1", "waits for 2"),
+                ("task 2", "waits for 1"),
+                ("task 3", "waits for 1"),
+                ("task 4", "at a guard"),
+            ][..],
+        ),
+        (CHANGED, 10_000, &[("task 1", "waits for -2147483648")]),
+        (GUARDS, 10_000, &[("task 1", "waits for 0"), ("task 3", "at a guard"), ("task 4", "at a guard")]),
+        // Paused, finished, stopped by a missing value.
+        (CIRCLE, 9, &[]),
+        (TWO, 100, &[]),
+        (DIVISOR, 10_000, &[]),
+    ] {
+        let (document, _) = picture(text, budget);
+        let found = lane_ends(&document);
+        let found: Vec<_> = found.iter().map(|(label, words)| (&**label, &**words)).collect();
+        assert_eq!(found, due, "{text}");
+        assert!(document.contains(">stuck: waits for 2<"));
+    }
+    // The wait's own text keeps the number at its turns.
+    assert!(picture(CHANGED, 10_000).0.contains(">awaits 9<"));
 }
 
 #[test]

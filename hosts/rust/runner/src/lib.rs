@@ -1,7 +1,8 @@
 //! A safe wrapper of the recipe runner.
 //!
 //! A recipe is a table of 8-byte records. [`State::start`] checks it and gives a fresh state; [`State::run`] makes steps
-//! from there and writes a log. Nothing here panics, and a refused call changes neither state nor log.
+//! from there and writes a log; [`State::why_stuck`] tells who waits for whom where a run is stuck. Nothing here panics,
+//! and a refused call changes neither state nor log.
 
 use std::fmt;
 
@@ -11,6 +12,8 @@ pub const RECORD: usize = 8;
 pub const STATE: usize = 520;
 /// The most bytes of a table.
 pub const TABLE: usize = 32_768;
+/// The bytes of a chain: two for each of 32 live tasks, and two for the number that closes a circle.
+pub const CHAIN: usize = 66;
 
 /// What the library's `start` returns.
 #[repr(C)]
@@ -30,8 +33,18 @@ pub struct Answer {
     pub place: u32,
 }
 
+/// What the library's `why_stuck` returns.
+#[repr(C)]
+#[derive(Clone, Copy, Debug, PartialEq, Eq)]
+pub struct Explained {
+    pub number: u32,
+    pub count: u32,
+    pub end: u32,
+    pub place: u32,
+}
+
 mod library {
-    use super::{Answer, Started};
+    use super::{Answer, Explained, Started};
 
     extern "C" {
         pub fn recipe_start(table: *const u8, table_len: usize, state: *mut u8, state_len: usize) -> Started;
@@ -44,6 +57,14 @@ mod library {
             log: *mut u8,
             log_len: usize,
         ) -> Answer;
+        pub fn recipe_why_stuck(
+            table: *const u8,
+            table_len: usize,
+            state: *const u8,
+            state_len: usize,
+            chain: *mut u8,
+            chain_len: usize,
+        ) -> Explained;
     }
 }
 
@@ -65,6 +86,21 @@ pub fn run(table: &[u8], state: &mut [u8], budget: u32, log: &mut [u8]) -> Answe
             budget,
             log.as_mut_ptr(),
             log.len(),
+        )
+    }
+}
+
+/// The library's `why_stuck`, on buffers of any content and length.
+pub fn why_stuck(table: &[u8], state: &[u8], chain: &mut [u8]) -> Explained {
+    // As in `start`.
+    unsafe {
+        library::recipe_why_stuck(
+            table.as_ptr(),
+            table.len(),
+            state.as_ptr(),
+            state.len(),
+            chain.as_mut_ptr(),
+            chain.len(),
         )
     }
 }
@@ -141,6 +177,7 @@ impl Refusal {
             21 => "the state is not of 520 bytes",
             22 => "the state's record breaks a rule, or its place is none",
             23 => "there are more live tasks than numbers issued",
+            25 => "the state is not stuck",
             _ => "not a published number",
         }
     }
@@ -161,6 +198,36 @@ pub struct Ran {
     pub steps: u32,
     /// How many records the call wrote, from the log's first byte on.
     pub records: u32,
+}
+
+/// How a chain ends.
+#[derive(Clone, Copy, Debug, PartialEq, Eq)]
+pub enum End {
+    /// In a task named earlier: the tasks from there on wait in a circle.
+    NamedEarlier,
+    /// In a task that waits for a number never issued.
+    NeverIssued,
+    /// In a task at an untrue guard.
+    UntrueGuard,
+}
+
+impl End {
+    fn from_number(number: u32) -> Option<End> {
+        Some(match number {
+            1 => End::NamedEarlier,
+            2 => End::NeverIssued,
+            3 => End::UntrueGuard,
+            _ => return None,
+        })
+    }
+}
+
+/// Who waits for whom: each task for the next, from the front of the queue.
+#[derive(Clone, Debug, PartialEq, Eq)]
+pub struct Chain {
+    /// The task numbers; with [`End::NamedEarlier`] the last is the one named earlier, again.
+    pub tasks: Vec<u16>,
+    pub end: End,
 }
 
 /// The state of a recipe's run: a block of 520 bytes.
@@ -198,6 +265,19 @@ impl State {
         match Ending::of(a) {
             Some(ending) => Ok(Ran { ending, steps: a.steps, records: a.records }),
             None => Err(Refusal { number: a.number, place: a.place }),
+        }
+    }
+
+    /// The chain of a stuck state; 25 where the state is not stuck.
+    pub fn why_stuck(&self, table: &[u8]) -> Result<Chain, Refusal> {
+        let mut chain = [0; CHAIN];
+        let e = why_stuck(table, &self.block, &mut chain);
+        match End::from_number(e.end) {
+            Some(end) => {
+                let numbers = chain.chunks_exact(2).take(e.count as usize);
+                Ok(Chain { tasks: numbers.map(|pair| u16::from_le_bytes([pair[0], pair[1]])).collect(), end })
+            }
+            None => Err(Refusal { number: e.number, place: e.place }),
         }
     }
 }
@@ -351,6 +431,25 @@ mod tests {
         let ran = with_variable_8(&state, 3).run(&table, 9, &mut log).unwrap();
         assert_eq!(ran, Ran { ending: Ending::Finished, steps: 2, records: 2 });
         assert_eq!(records(&log, 1).next().unwrap().to_string(), "valve 1 0 2");
+    }
+
+    /// Main waits for itself.
+    const CIRCLE: [[u8; 8]; 4] =
+        [[1, 0, 3, 0, 0, 0, 0, 0], [3, 8, 1, 0, 0, 0, 0, 0], [9, 0, 0, 0, 1, 0, 0, 0], [8, 8, 0, 0, 0, 0, 0, 0]];
+
+    #[test]
+    fn a_stuck_state_has_a_chain() {
+        for (table, chain) in [
+            (CIRCLE.to_vec(), Chain { tasks: vec![1, 1], end: End::NamedEarlier }),
+            (vec![[1, 0, 1, 0, 0, 0, 0, 0], [8, 8, 0, 0, 0, 0, 0, 0]], Chain { tasks: vec![1], end: End::NeverIssued }),
+            (GUARD.to_vec(), Chain { tasks: vec![1], end: End::UntrueGuard }),
+        ] {
+            let table = table.concat();
+            let mut state = State::start(&table).unwrap();
+            assert_eq!(state.why_stuck(&table), Err(Refusal { number: 25, place: 0 }));
+            assert_eq!(state.run(&table, 100, &mut [0; 64]).unwrap().ending, Ending::Stuck);
+            assert_eq!(state.why_stuck(&table), Ok(chain));
+        }
     }
 
     #[test]

@@ -1,6 +1,6 @@
 //! A case: what is called on which buffers, its form in the stored input, and its line in the stored output.
 
-use recipe_model::{print, run, start};
+use recipe_model::{print, run, start, why_stuck};
 
 /// The calls of [`Case::RunOn`] end here even if the run does not.
 const MOST_CALLS: u32 = 100_000;
@@ -28,6 +28,11 @@ pub enum Case {
     Print {
         table: Vec<u8>,
     },
+    WhyStuck {
+        table: Vec<u8>,
+        block: Vec<u8>,
+        chain: Vec<u8>,
+    },
 }
 
 /// What a case gives: the numbers returned, and each buffer that is written. A print gives its text and the text's
@@ -46,6 +51,7 @@ impl Case {
             Case::Run { table, block, budget, log } => (1, *budget, &[table, block, log]),
             Case::RunOn { table, block, budget, log } => (2, *budget, &[table, block, log]),
             Case::Print { table } => (3, 0, &[table]),
+            Case::WhyStuck { table, block, chain } => (4, 0, &[table, block, chain]),
         };
         out.extend([what, 0, 0, 0]);
         out.extend(budget.to_le_bytes());
@@ -56,9 +62,11 @@ impl Case {
 
     pub fn table(&self) -> &[u8] {
         match self {
-            Case::Start { table, .. } | Case::Run { table, .. } | Case::RunOn { table, .. } | Case::Print { table } => {
-                table
-            }
+            Case::Start { table, .. }
+            | Case::Run { table, .. }
+            | Case::RunOn { table, .. }
+            | Case::Print { table }
+            | Case::WhyStuck { table, .. } => table,
         }
     }
 
@@ -80,6 +88,11 @@ impl Case {
             Case::Print { table } => {
                 let text = print(table).into_bytes();
                 Outcome { numbers: vec![text.len() as u32], buffers: vec![text] }
+            }
+            Case::WhyStuck { table, block, chain } => {
+                let mut chain = chain.clone();
+                let got = why_stuck(table, block, &mut chain);
+                Outcome { numbers: vec![got.number, got.count, got.end, got.place], buffers: vec![chain] }
             }
         }
     }

@@ -49,7 +49,8 @@ fn make() -> Outcome<()> {
     let runs = count(|case| matches!(case, Case::Run { .. }));
     let lists = count(|case| matches!(case, Case::RunOn { .. }));
     let prints = count(|case| matches!(case, Case::Print { .. }));
-    println!("{} cases: {starts} starts, {runs} runs, {lists} lists of runs, {prints} prints", cases.len());
-    println!("{} bytes of input", input.len());
+    let chains = count(|case| matches!(case, Case::WhyStuck { .. }));
+    println!("{} cases: {starts} starts, {runs} runs, {lists} lists of runs,", cases.len());
+    println!("{prints} prints, {chains} questions why a state is stuck; {} bytes of input", input.len());
     Ok(())
 }

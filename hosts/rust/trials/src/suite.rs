@@ -2,6 +2,8 @@
 
 mod blocks;
 
+mod chains;
+
 mod divisors;
 
 mod orders;
@@ -50,6 +52,10 @@ impl Suite {
         self.add(Case::RunOn { table: table.to_vec(), block: fresh(), budget, log });
     }
 
+    fn why_stuck(&mut self, table: &[u8], block: Vec<u8>, chain: Vec<u8>) {
+        self.add(Case::WhyStuck { table: table.to_vec(), block, chain });
+    }
+
     fn print(&mut self, rows: &[Row]) {
         self.add(Case::Print { table: table(rows) });
     }
@@ -88,11 +94,12 @@ pub fn suite(vectors: &[Vector]) -> Vec<Case> {
     runs::sweep(&mut suite);
     waits::sweep(&mut suite);
     divisors::sweep(&mut suite);
+    chains::sweep(&mut suite);
     prints::sweep(&mut suite, vectors);
     suite.cases
 }
 
-/// A start on every table of the published cases, then the published starts and runs as they are.
+/// A start on every table of the published cases, then the published cases but for the prints as they are.
 fn published(suite: &mut Suite, vectors: &[Vector]) {
     for vector in vectors {
         suite.start(vector.case.table(), old(BLOCK));

@@ -1,8 +1,9 @@
 //! Published cases of another model of the same document, as `cases.txt` holds them.
 //!
 //! A line is `start table block number place block`, `run table block budget log number steps records place block
-//! records` or `print table text`. Bytes are in hex, `-` for none; `hh*n.` stands for n bytes hh, and `=` for "as
-//! before". The text goes to the line's end, with `|` for the end of each of its lines.
+//! records`, `explain table block chain number count end place numbers` or `print table text`. Bytes are in hex, `-` for
+//! none; `hh*n.` stands for n bytes hh, and `=` for "as before". The text goes to the line's end, with `|` for the end of
+//! each of its lines.
 
 use crate::case::{Case, Outcome};
 use crate::json::Json;
@@ -40,7 +41,7 @@ pub fn take_over(text: &str) -> Result<(Vec<Vector>, BTreeMap<String, usize>), S
     Ok((vectors, left))
 }
 
-/// One published case, if it is a start, a run without registers or a print.
+/// One published case, if it is a start, a print, or a run or an explanation without registers.
 fn published(json: &Json) -> Result<Option<Vector>, String> {
     let want = json.field("want")?;
     let numbers = |names: &[&str]| names.iter().map(|name| want.number(name)).collect::<Result<Vec<_>, _>>();
@@ -54,17 +55,30 @@ fn published(json: &Json) -> Result<Option<Vector>, String> {
             let (budget, log) = (json.number("budget")?, json.bytes("log")?);
             let numbers = numbers(&["number", "steps", "records", "place"])?;
             let (after, written) = (want.bytes("block")?, want.bytes("log")?);
-            let kept = 8 * numbers[2] as usize;
-            if log.len() != written.len() || log.get(kept..) != written.get(kept..) {
-                return Err("bytes past the last record are not kept".to_string());
-            }
+            bytes_are_kept(&log, &written, 8 * numbers[2] as usize)?;
             let want = Outcome { numbers, buffers: vec![after, written] };
             Vector { case: Case::Run { table, block, budget, log }, want }
+        }
+        "explain" if json.field("regs").is_err() => {
+            let (table, block, chain) = (json.bytes("table")?, json.bytes("block")?, json.bytes("out")?);
+            let numbers = numbers(&["number", "count", "end", "place"])?;
+            let written = want.bytes("out")?;
+            bytes_are_kept(&chain, &written, 2 * numbers[1] as usize)?;
+            let want = Outcome { numbers, buffers: vec![written] };
+            Vector { case: Case::WhyStuck { table, block, chain }, want }
         }
         "print" => print_vector(json.bytes("table")?, want.text("text")?.to_string()),
         _ => return Ok(None),
     };
     Ok(Some(vector))
+}
+
+/// The bytes of an output past what was written are as before: `cases.txt` does not hold them.
+fn bytes_are_kept(before: &[u8], after: &[u8], written: usize) -> Result<(), String> {
+    if before.len() != after.len() || before.get(written..) != after.get(written..) {
+        return Err("bytes past what was written are not kept".to_string());
+    }
+    Ok(())
 }
 
 fn print_vector(table: Vec<u8>, text: String) -> Vector {
@@ -86,11 +100,15 @@ fn read_line(line: &str) -> Result<Vector, String> {
         ["run", table, block, budget, log, number, steps, records, place, after, written] => {
             let (table, block, log) = (bytes(table)?, bytes(block)?, bytes(log)?);
             let budget = budget.parse().map_err(|_| "a budget is due")?;
-            let after = bytes_after(after, &block)?;
-            let mut lines = bytes(written)?;
-            lines.extend(log.get(lines.len()..).ok_or("more records than the log holds")?);
-            let want = Outcome { numbers: numbers(&[number, steps, records, place])?, buffers: vec![after, lines] };
+            let (after, log_after) = (bytes_after(after, &block)?, bytes_over(written, &log)?);
+            let want = Outcome { numbers: numbers(&[number, steps, records, place])?, buffers: vec![after, log_after] };
             Ok(Vector { case: Case::Run { table, block, budget, log }, want })
+        }
+        ["explain", table, block, chain, number, count, end, place, written] => {
+            let (table, block, chain) = (bytes(table)?, bytes(block)?, bytes(chain)?);
+            let after = bytes_over(written, &chain)?;
+            let want = Outcome { numbers: numbers(&[number, count, end, place])?, buffers: vec![after] };
+            Ok(Vector { case: Case::WhyStuck { table, block, chain }, want })
         }
         _ => Err("not a case".to_string()),
     }
@@ -105,6 +123,11 @@ fn write_line(Vector { case, want }: &Vector) -> String {
             let written = &want.buffers[1][..8 * want.numbers[2] as usize];
             let given = format!("{} {} {budget} {}", field(table), field(block), field(log));
             format!("run {given} {numbers} {} {}", after(block), field(written))
+        }
+        Case::WhyStuck { table, block, chain } => {
+            let written = &want.buffers[0][..2 * want.numbers[1] as usize];
+            let given = format!("{} {} {}", field(table), field(block), field(chain));
+            format!("explain {given} {numbers} {}", field(written))
         }
         Case::Print { table } => {
             format!("print {} {}", field(table), String::from_utf8_lossy(&want.buffers[0]).replace('\n', "|"))
@@ -151,6 +174,13 @@ fn bytes_after(field: &str, before: &[u8]) -> Result<Vec<u8>, String> {
         return Ok(before.to_vec());
     }
     bytes(field)
+}
+
+/// An output that must come out: what is written, over what was there before.
+fn bytes_over(field: &str, before: &[u8]) -> Result<Vec<u8>, String> {
+    let mut after = bytes(field)?;
+    after.extend(before.get(after.len()..).ok_or("more is written than the output holds")?);
+    Ok(after)
 }
 
 fn numbers(fields: &[&str]) -> Result<Vec<u32>, String> {

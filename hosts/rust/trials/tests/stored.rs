@@ -21,7 +21,7 @@ fn the_stored_files_are_the_models() {
     );
 }
 
-/// The program's buffers hold 65,536 bytes of table and 4,096 of block and log.
+/// The program's buffers hold 65,536 bytes of table and 4,096 of block, log and chain.
 #[test]
 fn the_program_can_read_each_case() {
     for (i, case) in cases().iter().enumerate() {
@@ -32,6 +32,9 @@ fn the_program_can_read_each_case() {
                 assert!(block.len() <= 4_096 && log.len() <= 4_096, "case {i}");
             }
             Case::Print { .. } => {}
+            Case::WhyStuck { block, chain, .. } => {
+                assert!(block.len() <= 4_096 && chain.len() <= 4_096, "case {i}");
+            }
         }
     }
 }
@@ -58,7 +61,8 @@ fn read_case(rest: &mut &[u8]) -> Case {
         0 => Case::Start { table, block: read_buffer(rest) },
         1 => Case::Run { table, block: read_buffer(rest), budget, log: read_buffer(rest) },
         2 => Case::RunOn { table, block: read_buffer(rest), budget, log: read_buffer(rest) },
-        _ => Case::Print { table },
+        3 => Case::Print { table },
+        _ => Case::WhyStuck { table, block: read_buffer(rest), chain: read_buffer(rest) },
     }
 }
 
@@ -73,13 +77,14 @@ fn the_input_spells_the_cases() {
     assert!(rest.is_empty());
 }
 
-/// Every published number but 23, which cannot come, for start and for run; 22 at every record that can be at fault; 24
-/// at every kind of statement that needs a value; every kind of log record; every word that the print program can say
-/// but "spent", which 10,000 steps do not reach.
+/// Every published number but 23, which cannot come, for start, for run and for why_stuck; 22 at every record that can
+/// be at fault; 24 at every kind of statement that needs a value; every kind of log record; every end and every length
+/// of a chain; every word that the print program can say but "spent", which 10,000 steps do not reach.
 #[test]
 fn every_answer_occurs() {
     let (mut starts, mut runs, mut records) = (BTreeSet::new(), BTreeSet::new(), BTreeSet::new());
     let (mut faults, mut lacking, mut words) = (BTreeSet::new(), BTreeSet::new(), BTreeSet::new());
+    let (mut whys, mut ends, mut counts) = (BTreeSet::new(), BTreeSet::new(), BTreeSet::new());
     for case in cases() {
         let outcome = case.outcome();
         match case {
@@ -99,6 +104,11 @@ fn every_answer_occurs() {
                 let text = String::from_utf8_lossy(&outcome.buffers[0]);
                 words.extend(text.lines().filter_map(|line| line.split(' ').next().map(str::to_string)));
             }
+            Case::WhyStuck { .. } => {
+                whys.insert(outcome.numbers[0]);
+                counts.insert(outcome.numbers[1]);
+                ends.insert(outcome.numbers[2]);
+            }
         }
     }
     assert_eq!(Vec::from_iter(starts), [0, 11, 12, 13, 14, 15, 16, 17, 21]);
@@ -106,6 +116,9 @@ fn every_answer_occurs() {
     assert_eq!(Vec::from_iter(records), [1, 2, 3, 4, 5, 6, 7]);
     assert_eq!(Vec::from_iter(faults), Vec::from_iter(0..=32));
     assert_eq!(Vec::from_iter(lacking), [3, 4, 5, 6]);
+    assert_eq!(Vec::from_iter(whys), [0, 11, 12, 13, 14, 15, 16, 17, 21, 22, 25]);
+    assert_eq!(Vec::from_iter(ends), [0, 1, 2, 3]);
+    assert_eq!(Vec::from_iter(counts), Vec::from_iter(0..=33));
     let endings = ["finished", "logfull", "novalue", "paused", "refused", "stuck", "tasks"];
     let kinds = ["ended", "gave", "spawned", "taken", "turned", "valve", "waits"];
     assert_eq!(words, endings.into_iter().chain(kinds).map(str::to_string).collect());

@@ -125,7 +125,7 @@ fn report(all: &[Workload], figures: &[[f64; 2]]) {
         logarithms += ratio.ln();
         let unit = match workload.unit {
             Unit::Step => "a step",
-            Unit::Call | Unit::Start => "a call",
+            Unit::Call | Unit::Start | Unit::Why => "a call",
             Unit::Record => "a record",
         };
         println!("{:<18} {:<9} {:>10.1} {:>10.1} {:>7.2}", workload.name, unit, library, model, ratio);

@@ -1,7 +1,7 @@
 //! What the marks of the picture mean.
 
 use super::plan::{Plan, MARGIN};
-use super::{arrow_at, cap_at, diamond_at, flag_at, stop_at, BURST, QUEUED, TEXT_SIZE, TURN, VALVE, WAITS};
+use super::{arrow_at, cap_at, diamond_at, flag_at, stop_at, BURST, NOTE_SIZE, QUEUED, TEXT_SIZE, TURN, VALVE, WAITS};
 use crate::svg::Svg;
 
 /// The height of a line of the legend, and the width of an item and of its symbol.
@@ -22,10 +22,11 @@ enum Symbol {
     Cap,
     Valve,
     End,
+    Held,
     Stop,
 }
 
-const ITEMS: [(Symbol, &str); 10] = [
+const ITEMS: [(Symbol, &str); 11] = [
     (Symbol::Burst, "burst"),
     (Symbol::Queued, "in the ready queue"),
     (Symbol::Await, "waits at an await"),
@@ -35,6 +36,7 @@ const ITEMS: [(Symbol, &str); 10] = [
     (Symbol::Cap, "end of the task"),
     (Symbol::Valve, "valve 0 set to 1"),
     (Symbol::End, "end of the run"),
+    (Symbol::Held, "stuck: waits for 2"),
     (Symbol::Stop, "stopped: no value"),
 ];
 
@@ -84,6 +86,7 @@ impl Symbol {
                 diamond_at(svg, x, y + 6.0, VALVE, "");
             }
             Symbol::End => svg.line("end", (x + 15.0, y - 9.0), (x + 15.0, y + 9.0)),
+            Symbol::Held => svg.text("note", (x, y + 0.35 * NOTE_SIZE), "for 2"),
             Symbol::Stop => {
                 svg.rect("burst", [x, y - BURST, 28.0, 2.0 * BURST], "");
                 stop_at(svg, x + 22.0, y, "");

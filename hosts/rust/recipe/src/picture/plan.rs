@@ -1,6 +1,6 @@
 //! Where everything of the picture stands.
 
-use super::{flag_text, flag_width, note_width, BURST, CAP, FLAG_ROW, NOTE_SIZE};
+use super::{flag_text, flag_width, held_width, note_width, BURST, CAP, FLAG_ROW, NOTE_SIZE};
 use crate::block::Wait;
 use crate::picture::legend;
 use crate::timeline::{Doing, Lane, Timeline};
@@ -48,7 +48,7 @@ pub struct Plan<'t> {
     /// Where the lanes begin and end, from top to bottom.
     pub top: f64,
     pub bottom: f64,
-    /// Where bars end that last until the run's end, and the widest flag.
+    /// Where bars end that last until the run's end, and the last of what stands to the right of them.
     pub end: f64,
     pub right: f64,
     pub wide: bool,
@@ -73,7 +73,8 @@ impl<'t> Plan<'t> {
             wide: end - LEFT > WIDE,
             rows: Vec::new(),
         };
-        plan.right = timeline.lanes.values().map(|lane| plan.flags_end(lane)).fold(end, f64::max);
+        let ends = timeline.lanes.values().map(|lane| plan.flags_end(lane).max(plan.held_end(lane)));
+        plan.right = ends.fold(end, f64::max);
         let label = if plan.wide { 80.0 } else { 0.0 };
         plan.width = (plan.right + label + MARGIN).max(NARROWEST);
         plan.top = legend::bottom(plan.width) + 14.0;
@@ -92,6 +93,11 @@ impl<'t> Plan<'t> {
     fn flags_end(&self, lane: &Lane) -> f64 {
         let ends = lane.settings.iter().map(|setting| self.x(setting.at) + flag_width(&flag_text(setting)));
         ends.fold(0.0, f64::max)
+    }
+
+    /// Where the text ends that tells what a stuck task waits for.
+    fn held_end(&self, lane: &Lane) -> f64 {
+        lane.held.map_or(0.0, |wait| self.end + held_width(wait))
     }
 
     /// The next lane's place.

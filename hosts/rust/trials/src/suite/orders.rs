@@ -117,7 +117,7 @@ fn table_first(suite: &mut Suite) {
 }
 
 /// Blocks of another length, and with a fault in the first record, in a task's and in an unused one.
-fn blocks_at_fault() -> Vec<Vec<u8>> {
+pub fn blocks_at_fault() -> Vec<Vec<u8>> {
     let mut unused = fresh();
     put(&mut unused, 263, &[1]);
     vec![

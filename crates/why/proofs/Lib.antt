@@ -1,0 +1,5 @@
+pub mod Naming
+pub mod Holding
+pub mod Following
+pub mod Stuck
+pub mod Explaining
