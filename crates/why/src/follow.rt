@@ -107,7 +107,8 @@ fn ended(numbers: [u16; 33], count: usize, end: End) -> Chain
     }
 }
 
-// Each task is named once at most, and one of them again: so the loop ends, and the numbers fit.
+// The chain of a stuck state, from the task at the front on. Each task is named once at most, and one of them again: so the loop ends, and the
+// numbers fit.
 pub fn follow(
     table: &[u8],
     queue: &[u64; 32],
