@@ -1,33 +1,35 @@
 /*
  * The recipe runner of the press controller: C interface.
  *
- * Three calls. recipe_start checks a recipe's table and writes a fresh state;
+ * Four calls. recipe_start checks a recipe's table and writes a fresh state;
  * recipe_run takes steps from a state and writes what happened into a log;
- * recipe_why_stuck writes who waits for whom where a run is stuck. Tasks are
- * scheduled round robin from one ready queue: a task runs until it yields
- * (suspend), waits (await, guard) or ends. Valves, clocks and sensors are the
- * host's business.
+ * recipe_why_stuck writes who waits for whom where a run is stuck;
+ * recipe_check_all checks a batch of recipes. Tasks are scheduled round robin
+ * from one ready queue: a task runs until it yields (suspend), waits (await,
+ * guard) or ends. Valves, clocks and sensors are the host's business.
  *
  * Buffers
  *   Each buffer is a pointer and a length in bytes, lent for the call only.
  *   - The pointer must not be null, even for length 0, and that many bytes
  *     must be there. No alignment is asked.
- *   - Table, state, log and chain must not overlap.
+ *   - The buffers of one call must not overlap.
  *   - Any length and any content is allowed: what breaks a rule is refused.
  *   - A refused call changes no buffer.
  *   - Fields of several bytes are little-endian.
  *
  * Threads
  *   The library keeps no state of its own and allocates nothing. Calls on
- *   different states are independent. One state and its log must not be used
- *   by two calls at once. What a call only reads, calls may share, and nobody
- *   may write it during a call: the table, and the state of recipe_why_stuck.
+ *   different states are independent, and so are checks of batches. What a call
+ *   writes must not be used by another at once: one state and its log, a chain,
+ *   outcomes. What a call only reads, calls may share, and nobody may write it
+ *   during a call: the table, the state of recipe_why_stuck, and a batch's
+ *   recipes and lengths.
  *
  * Stack
  *   Have 16,384 bytes of stack free for each call, whatever the table
  *   holds. Measured on x86-64: at most 13,223 bytes in recipe_run, 2,319 in
- *   recipe_start and 13,239 in recipe_why_stuck, rounded up here to the next
- *   4 KiB.
+ *   recipe_start, 13,239 in recipe_why_stuck and 2,351 in recipe_check_all,
+ *   rounded up here to the next 4 KiB.
  */
 #ifndef RECIPE_RUNNER_H
 #define RECIPE_RUNNER_H
@@ -52,11 +54,22 @@ extern "C" {
    for the number that closes a circle. */
 #define RECIPE_CHAIN_BYTES 66
 
-/* The `number` of each call: accepted (0), an ending (0-5, 24) or a refusal
-   (11-23, 25). */
+/* The most recipes of a batch. It may have none. */
+#define RECIPE_BATCH_MOST_RECIPES 64
+
+/* Size of a recipe's length in the list of a batch. */
+#define RECIPE_LENGTH_BYTES 4
+
+/* Size of a recipe's outcome: number and place, 4 bytes each. */
+#define RECIPE_OUTCOME_BYTES 8
+
+/* The number of each call: accepted (0), an ending (0-5, 24) or a refusal
+   (11-23, 25, 26). */
 enum recipe_number {
     /* recipe_start: the table is accepted and the fresh state written.
-       recipe_why_stuck: the state is stuck and the chain written. */
+       recipe_why_stuck: the state is stuck and the chain written.
+       recipe_check_all: each recipe is checked and its outcome written, in
+       which this number says that the recipe is accepted. */
     RECIPE_ACCEPTED = 0,
 
     /* recipe_run: endings. State and log are as after the steps counted. */
@@ -88,8 +101,14 @@ enum recipe_number {
                                   first */
 
     /* Refusal of recipe_why_stuck, once table and state have passed. */
-    RECIPE_NOT_STUCK = 25 /* the state is not stuck, or the chain is not of
-                             RECIPE_CHAIN_BYTES; place 0 */
+    RECIPE_NOT_STUCK = 25, /* the state is not stuck, or the chain is not of
+                              RECIPE_CHAIN_BYTES; place 0 */
+
+    /* Refusal of recipe_check_all, before any recipe is looked at. */
+    RECIPE_BATCH_LENGTHS = 26 /* the list's bytes are no multiple of 4, or name
+                                 more than 64 recipes, or do not add up to the
+                                 recipes' bytes, or the outcomes are not of
+                                 RECIPE_OUTCOME_BYTES a recipe */
 };
 
 /* Byte 0 of a log record. */
@@ -225,6 +244,33 @@ struct recipe_explained recipe_why_stuck(const uint8_t *table,
                                          const uint8_t *state,
                                          size_t state_len, uint8_t *chain,
                                          size_t chain_len);
+
+/*
+ * Check a batch of recipes: for each in turn, what recipe_start gives for it
+ * alone with a state of RECIPE_STATE_BYTES.
+ *
+ * recipes, recipes_len    the tables, one directly after the other, as
+ *                         recipe_start takes them. Only read.
+ * lengths, lengths_len    each table's length in bytes, RECIPE_LENGTH_BYTES
+ *                         unsigned, in the tables' order: at most
+ *                         RECIPE_BATCH_MOST_RECIPES. They add up to
+ *                         recipes_len. Only read.
+ * outcomes, outcomes_len  where the outcomes go, exactly RECIPE_OUTCOME_BYTES a
+ *                         recipe. Old content does not matter; all of it is
+ *                         written unless the call is refused.
+ *
+ * An outcome: bytes 0-3 the number, RECIPE_ACCEPTED or a refusal, 11-17; bytes
+ * 4-7 the place, the faulty record's index in its own table, 0 where none is
+ * named. A table of a length that recipe_start refuses has RECIPE_TABLE_LENGTH
+ * as its outcome and does not keep the others from being checked.
+ *
+ * Gives RECIPE_ACCEPTED when all outcomes are written, whatever they say, and
+ * names no place. No recipes, no lengths and no outcomes are accepted. Refusal:
+ * RECIPE_BATCH_LENGTHS.
+ */
+uint32_t recipe_check_all(const uint8_t *recipes, size_t recipes_len,
+                          const uint8_t *lengths, size_t lengths_len,
+                          uint8_t *outcomes, size_t outcomes_len);
 
 #ifdef __cplusplus
 }

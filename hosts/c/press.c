@@ -3,11 +3,15 @@
  * slice by slice and prints what happened.
  *
  *     press [-s STATEFILE] [-n SLICES] TABLE
+ *     press -c TABLE...
  *
  * A slice is one recipe_run call: SLICE_STEPS steps, fewer where the log fills.
  * -s saves the state after each slice and resumes from the file if it is there.
  * -n stops after so many slices. Of a run that ends stuck, standard error has
  * who waits for whom.
+ *
+ * -c runs nothing: it checks a batch of tables in one recipe_check_all call and
+ * prints a line for each.
  */
 #define _POSIX_C_SOURCE 200112L
 
@@ -29,18 +33,35 @@ enum exit_status {
     EXIT_UNFINISHED = 3
 };
 
-/* Table and state have one byte more than they may: a file that is too long is
-   then refused by the runner, with its number. */
+/* Table and state have one byte more than they may, and a batch one table more:
+   a file that is too long, or one too many, is then refused by the runner, with
+   its number. */
+enum {
+    TABLE_ROOM = RECIPE_TABLE_MOST_BYTES + 1,
+    STATE_ROOM = RECIPE_STATE_BYTES + 1,
+    BATCH_ROOM = RECIPE_BATCH_MOST_RECIPES + 1
+};
+
 struct press {
     const char *table_file;
     const char *state_file; /* NULL: do not save */
     unsigned long slices;   /* 0: until the run ends */
+    int check_only;
     uint64_t steps;
     size_t table_len;
     size_t state_len;
-    uint8_t table[RECIPE_TABLE_MOST_BYTES + 1];
-    uint8_t state[RECIPE_STATE_BYTES + 1];
+    uint8_t table[TABLE_ROOM];
+    uint8_t state[STATE_ROOM];
     uint8_t log[LOG_RECORDS * RECIPE_RECORD_BYTES];
+};
+
+/* The tables of a batch, one directly after the other. */
+struct batch {
+    size_t count;
+    size_t recipes_len;
+    uint8_t recipes[BATCH_ROOM * TABLE_ROOM];
+    uint8_t lengths[BATCH_ROOM * RECIPE_LENGTH_BYTES];
+    uint8_t outcomes[BATCH_ROOM * RECIPE_OUTCOME_BYTES];
 };
 
 static int trouble(const char *what)
@@ -51,7 +72,9 @@ static int trouble(const char *what)
 
 static int usage(void)
 {
-    fputs("usage: press [-s STATEFILE] [-n SLICES] TABLE\n", stderr);
+    fputs("usage: press [-s STATEFILE] [-n SLICES] TABLE\n"
+          "       press -c TABLE...\n",
+          stderr);
     return EXIT_TROUBLE;
 }
 
@@ -112,10 +135,23 @@ static unsigned task_number(const uint8_t *bytes)
     return bytes[0] | (unsigned)bytes[1] << 8;
 }
 
+static uint32_t word_at(const uint8_t *bytes)
+{
+    return (uint32_t)bytes[0] | (uint32_t)bytes[1] << 8 |
+           (uint32_t)bytes[2] << 16 | (uint32_t)bytes[3] << 24;
+}
+
+static void put_word(uint8_t *bytes, uint32_t word)
+{
+    bytes[0] = (uint8_t)word;
+    bytes[1] = (uint8_t)(word >> 8);
+    bytes[2] = (uint8_t)(word >> 16);
+    bytes[3] = (uint8_t)(word >> 24);
+}
+
 static int32_t record_value(const uint8_t *record)
 {
-    uint32_t bits = (uint32_t)record[4] | (uint32_t)record[5] << 8 |
-                    (uint32_t)record[6] << 16 | (uint32_t)record[7] << 24;
+    uint32_t bits = word_at(record + 4);
     int32_t value;
 
     /* A cast of the upper half would be up to the compiler. */
@@ -164,10 +200,21 @@ static void print_log(const uint8_t *log, uint32_t records)
     }
 }
 
-static int refused(uint32_t number, uint32_t place)
+/* Whether all that was printed is out. */
+static int flushed(void)
+{
+    return fflush(stdout) == 0 && !ferror(stdout);
+}
+
+static void print_refusal(uint32_t number, uint32_t place)
 {
     printf("refused %" PRIu32 " %" PRIu32 "\n", number, place);
-    return fflush(stdout) == 0 ? EXIT_REFUSED : trouble("output");
+}
+
+static int refused(uint32_t number, uint32_t place)
+{
+    print_refusal(number, place);
+    return flushed() ? EXIT_REFUSED : trouble("output");
 }
 
 /* The numbers between the endings 5 and 24. */
@@ -211,7 +258,7 @@ static void tell_chain(const struct press *press)
 static int ended(const struct press *press, const struct recipe_answer *answer)
 {
     printf("%s %" PRIu64 "\n", ending_word(answer->number), press->steps);
-    if (fflush(stdout) != 0)
+    if (!flushed())
         return trouble("output");
     if (answer->number == RECIPE_NOVALUE)
         fprintf(stderr, "press: record %" PRIu32 " divides by 0\n",
@@ -252,7 +299,7 @@ static int run_slice(struct press *press, struct recipe_answer *answer)
         return refused(answer->number, answer->place);
     press->steps += answer->steps;
     print_log(press->log, answer->records);
-    if (fflush(stdout) != 0)
+    if (!flushed())
         return trouble("output");
     if (press->state_file != NULL && save_state(press) != 0)
         return trouble(press->state_file);
@@ -280,6 +327,59 @@ static int run(struct press *press)
     return ended(press, &answer);
 }
 
+/* Append the table of a file. 0, or -1 with errno set. */
+static int append_table(struct batch *batch, const char *path)
+{
+    size_t len;
+
+    if (read_file(path, batch->recipes + batch->recipes_len, TABLE_ROOM,
+                  &len) != 0)
+        return -1;
+    put_word(batch->lengths + batch->count * RECIPE_LENGTH_BYTES,
+             (uint32_t)len);
+    batch->recipes_len += len;
+    batch->count++;
+    return 0;
+}
+
+static int print_outcomes(const struct batch *batch, char **files)
+{
+    int status = EXIT_FINISHED;
+    size_t i;
+
+    for (i = 0; i < batch->count; i++) {
+        const uint8_t *outcome = batch->outcomes + i * RECIPE_OUTCOME_BYTES;
+        uint32_t number = word_at(outcome);
+
+        printf("%s: ", files[i]);
+        if (number == RECIPE_ACCEPTED) {
+            puts("accepted");
+        } else {
+            print_refusal(number, word_at(outcome + 4));
+            status = EXIT_REFUSED;
+        }
+    }
+    return flushed() ? status : trouble("output");
+}
+
+/* Of too many files those that fit are enough to be refused. */
+static int check(char **files, size_t count)
+{
+    static struct batch batch;
+    uint32_t number;
+
+    while (batch.count < count && batch.count < BATCH_ROOM) {
+        if (append_table(&batch, files[batch.count]) != 0)
+            return trouble(files[batch.count]);
+    }
+    number = recipe_check_all(batch.recipes, batch.recipes_len, batch.lengths,
+                              batch.count * RECIPE_LENGTH_BYTES, batch.outcomes,
+                              batch.count * RECIPE_OUTCOME_BYTES);
+    if (number != RECIPE_ACCEPTED)
+        return refused(number, 0);
+    return print_outcomes(&batch, files);
+}
+
 /* A whole number from 1; anything else gives 0. */
 static unsigned long count_of(const char *text)
 {
@@ -297,8 +397,11 @@ static int read_arguments(struct press *press, int argc, char **argv)
 {
     int option;
 
-    while ((option = getopt(argc, argv, "s:n:")) != -1) {
+    while ((option = getopt(argc, argv, "cs:n:")) != -1) {
         switch (option) {
+        case 'c':
+            press->check_only = 1;
+            break;
         case 's':
             press->state_file = optarg;
             break;
@@ -311,24 +414,35 @@ static int read_arguments(struct press *press, int argc, char **argv)
             return usage();
         }
     }
-    if (optind != argc - 1)
-        return usage();
-    press->table_file = argv[optind];
     return 0;
+}
+
+static int run_table(struct press *press)
+{
+    int status;
+
+    if (read_file(press->table_file, press->table, sizeof press->table,
+                  &press->table_len) != 0)
+        return trouble(press->table_file);
+    status = begin(press);
+    return status != 0 ? status : run(press);
 }
 
 int main(int argc, char **argv)
 {
     static struct press press;
     int status = read_arguments(&press, argc, argv);
+    int files = argc - optind;
 
     if (status != 0)
         return status;
-    if (read_file(press.table_file, press.table, sizeof press.table,
-                  &press.table_len) != 0)
-        return trouble(press.table_file);
-    status = begin(&press);
-    if (status != 0)
-        return status;
-    return run(&press);
+    if (press.check_only) {
+        if (files < 1 || press.state_file != NULL || press.slices != 0)
+            return usage();
+        return check(argv + optind, (size_t)files);
+    }
+    if (files != 1)
+        return usage();
+    press.table_file = argv[optind];
+    return run_table(&press);
 }

@@ -4,8 +4,8 @@
  * Each call runs in a thread whose stack is a buffer painted before; the lowest
  * byte that changed says how deep the call went. The tables are those that
  * nest as deep as the rules allow, have as many records as they allow, leave as
- * many tasks in a circle, or are refused only for being too deep. Bytes are
- * counted from the caller's frame.
+ * many tasks in a circle, or are refused only for being too deep; a batch has
+ * as many of one table as they allow. Bytes are counted from the caller's frame.
  */
 #define _POSIX_C_SOURCE 200112L
 
@@ -20,6 +20,7 @@ enum {
     STACK_SIZE = 1 << 20,
     STACK_ALIGNMENT = 1 << 12,
     RECORDS = RECIPE_TABLE_MOST_BYTES / RECIPE_RECORD_BYTES,
+    RECIPES = RECIPE_BATCH_MOST_RECIPES,
     MOST_DEPTH = 16,
     BUDGET = 10000
 };
@@ -34,8 +35,9 @@ enum kind {
 enum lean { SOLE, FIRST, SECOND };
 
 /* The runner's calls, and what is printed for them. */
-enum callee { START, RUN, WHY_STUCK, CALLEES };
-static const char *const callee_word[CALLEES] = {"start", "run", "why"};
+enum callee { START, RUN, WHY_STUCK, CHECK_ALL, CALLEES };
+static const char *const callee_word[CALLEES] = {"start", "run", "why",
+                                                 "check"};
 
 struct call {
     enum callee callee;
@@ -48,6 +50,9 @@ static size_t records; /* how many of them the table has so far */
 static uint8_t state[RECIPE_STATE_BYTES];
 static uint8_t logged[RECIPE_TABLE_MOST_BYTES];
 static uint8_t chain[RECIPE_CHAIN_BYTES];
+static uint8_t recipes[RECIPES * RECIPE_TABLE_MOST_BYTES];
+static uint8_t lengths[RECIPES * RECIPE_LENGTH_BYTES];
+static uint8_t outcomes[RECIPES * RECIPE_OUTCOME_BYTES];
 
 static uint8_t *stack;
 static uint8_t paint;
@@ -140,6 +145,21 @@ static void fill_with_procedures(void)
         append(PROCEDURE, 0, 0);
 }
 
+/* The table as it is, over and over. */
+static void fill_batch(void)
+{
+    size_t len = records * RECIPE_RECORD_BYTES;
+    size_t i;
+
+    for (i = 0; i < RECIPES; i++) {
+        uint8_t *length = lengths + i * RECIPE_LENGTH_BYTES;
+
+        memcpy(recipes + i * len, table, len);
+        length[0] = (uint8_t)(len & 255);
+        length[1] = (uint8_t)(len >> 8);
+    }
+}
+
 static size_t untouched_bytes(void)
 {
     size_t i = 0;
@@ -159,9 +179,12 @@ static uint32_t number_of(enum callee callee)
     case RUN:
         return recipe_run(table, table_len, state, sizeof state, BUDGET, logged,
                           sizeof logged).number;
-    default:
+    case WHY_STUCK:
         return recipe_why_stuck(table, table_len, state, sizeof state, chain,
                                 sizeof chain).number;
+    default:
+        return recipe_check_all(recipes, RECIPES * table_len, lengths,
+                                sizeof lengths, outcomes, sizeof outcomes);
     }
 }
 
@@ -198,6 +221,7 @@ static struct call measure(enum callee callee)
     struct call first = {callee, 0, 0}, second = {callee, 0, 0};
     uint8_t before[RECIPE_STATE_BYTES];
 
+    fill_batch();
     memcpy(before, state, sizeof state);
     paint = 0xa5;
     on_painted_stack(&first);
@@ -397,8 +421,9 @@ int main(void)
     report_spawns();
     report_circle();
 
-    printf("at most: start %zu, run %zu, why %zu; to the next 4 KiB: %zu\n",
-           most[START], most[RUN], most[WHY_STUCK], rounded());
+    printf("at most: start %zu, run %zu, why %zu, check %zu; "
+           "to the next 4 KiB: %zu\n",
+           most[START], most[RUN], most[WHY_STUCK], most[CHECK_ALL], rounded());
     free(memory);
     return 0;
 }

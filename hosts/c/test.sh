@@ -296,6 +296,61 @@ $(awk 'BEGIN {
 press: task 2 was named before: a circle" "$(told "$work/circle")"
 }
 
+# longest FILE: a table of 4,096 procedures.
+longest() {
+    record 1 0 0 0 >"$1"
+    while [ "$(wc -c <"$1")" -lt 32768 ]; do
+        cat "$1" "$1" >"$1.twice"
+        mv "$1.twice" "$1"
+    done
+}
+
+# said_of COUNT FILE: what the host says of a batch that is one table over and
+# over.
+said_of() {
+    count=$1
+    file=$2
+    shift 2
+    while [ $# -lt "$count" ]; do
+        set -- "$@" "$file"
+    done
+    said -c "$@"
+}
+
+# accepted COUNT FILE: that all are accepted.
+accepted() {
+    awk -v count="$1" -v line="$2: accepted" \
+        'BEGIN { while (i++ < count) print line; print "exit 0" }'
+}
+
+test_batch() {
+    check "a batch with refused tables" "$work/a: accepted
+$work/bad: refused 14 1
+$work/empty: refused 11 0
+$work/c: accepted
+$work/long: refused 11 0
+$work/a: accepted
+exit 1" "$(said -c "$work/a" "$work/bad" "$work/empty" "$work/c" \
+        "$work/long" "$work/a")"
+
+    longest "$work/most"
+    for count in 1 64; do
+        check "a batch of $count" "$(accepted $count "$work/most")" \
+            "$(said_of $count "$work/most")"
+    done
+    for count in 65 66 200; do
+        check "a batch of $count" "refused 26 0
+exit 1" "$(said_of $count "$work/a")"
+    done
+
+    check "no table to check" "exit 2" "$(said -c)"
+    check "a state with a batch" "exit 2" "$(said -c -s "$work/s" "$work/a")"
+    check "slices with a batch" "exit 2" "$(said -c -n 1 "$work/a")"
+    check "a batch with no such table" "exit 2" \
+        "$(said -c "$work/a" "$work/nowhere" "$work/a")"
+    check "which is told" 1 "$(grep -c "$work/nowhere" "$work/errors")"
+}
+
 test_trouble() {
     check "no table named" "exit 2" "$(said)"
     check "two tables named" "exit 2" "$(said "$work/a" "$work/a")"
@@ -316,5 +371,6 @@ test_divisor
 test_chains
 test_circle_behind_a_task
 test_longest_chain
+test_batch
 test_trouble
 exit $failed

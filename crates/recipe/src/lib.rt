@@ -1,4 +1,5 @@
 // The C interface: all that hosts call, in one archive. A slice is a pointer and a length.
+use batch::check_all;
 use runner::Answer;
 use runner::Started;
 use runner::run;
@@ -9,6 +10,7 @@ ghost use mathlib.Core.Path.{_≡_};
 ghost use Rattle.rules.specs.Run.{startOn, runOn};
 ghost use Rattle.rules.specs.Answers.{StartAnswers, StartSays, RunAnswers, RunSays};
 ghost use Rattle.rules.specs.Why.{whyOn, WhySays};
+ghost use Rattle.rules.specs.Batch.{checked, checkAllOn, BatchSays};
 ghost use Rattle.runner.specs.Calls.{startedOf, outcomeOf, called, MeetsDemand, ContinuesAsOne};
 ghost use Rattle.why.specs.Explained.{explainedOf, AfterStuck};
 
@@ -39,4 +41,12 @@ pub extern "C" fn recipe_why_stuck(table: &[u8], state: &[u8], chain: &mut [u8])
     ensures { λ r. ⌜ AfterStuck (now (table .entry)) (now (state .entry)) (now (chain .entry)) r ⌝ }
 {
     why_stuck(table, state, chain)
+}
+
+#[no_mangle]
+pub extern "C" fn recipe_check_all(recipes: &[u8], lengths: &[u8], outcomes: &mut [u8]) -> u32
+    ensures { λ r. ⌜ checked r (now (outcomes .exit)) ≡ checkAllOn (now (recipes .entry)) (now (lengths .entry)) (now (outcomes .entry)) ⌝ }
+    ensures { λ r. ⌜ BatchSays (now (recipes .entry)) (now (lengths .entry)) (now (outcomes .entry)) (checked r (now (outcomes .exit))) ⌝ }
+{
+    check_all(recipes, lengths, outcomes)
 }

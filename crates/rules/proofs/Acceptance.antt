@@ -10,7 +10,8 @@ use Rattle.rules.specs.State.{State}
 use Rattle.rules.specs.Scheduler.{Next, finish, jam, bar, goes}
 use Rattle.rules.specs.Answers.{refuses, published}
 use Rattle.rules.specs.Why as W
-use Rattle.rules.specs.Trial.{rows, startRows, whyRows, outcomeOf, allPass, allStart, allWhy, refusals, returned, whyReturned, those}
+use Rattle.rules.specs.Batch as B
+use Rattle.rules.specs.Trial.{rows, startRows, whyRows, batchRows, outcomeOf, allPass, allStart, allWhy, allBatch, refusals, returned, whyReturned, batchReturned, those}
 use Rattle.rules.specs.Witness.{rules, moments, Counts, NoChain}
 use Rattle.rules.proofs.Computed.{meaning}
 
@@ -26,6 +27,10 @@ pub why-rows-hold : allWhy whyRows ≡ true
 unfolding meaning allWhy
 why-rows-hold = refl
 
+pub batch-rows-hold : allBatch batchRows ≡ true
+unfolding meaning allBatch
+batch-rows-hold = refl
+
 -- the published list, number by number
 pub published-are : those published 256 ≡ returned
 published-are = refl
@@ -35,6 +40,9 @@ refusals-are = refl
 
 pub why-published-are : those W.published 256 ≡ whyReturned
 why-published-are = refl
+
+pub batch-published-are : those B.published 256 ≡ batchReturned
+batch-published-are = refl
 
 pub witness-counts : Counts
 unfolding meaning moments

@@ -19,5 +19,6 @@ pub mod Demand
 pub mod Guards
 pub mod NoValue
 pub mod Why
+pub mod Batch
 pub mod Says
 pub mod Witness

@@ -21,5 +21,6 @@ pub mod Demand
 pub mod Guards
 pub mod NoValue
 pub mod Why
+pub mod Batch
 pub mod Witness
 pub mod Rest

@@ -12,6 +12,7 @@ use Rattle.rules.specs.Values.{lowest, highest}
 use Rattle.rules.specs.Recipe.{row}
 use Rattle.rules.specs.Run.{Started, startOn, Outcome, runOn}
 use Rattle.rules.specs.Why.{Explained, halves, whyOn}
+use Rattle.rules.specs.Batch.{Checked, checkAllOn, concat}
 
 -- A table, a block (the one that start writes, if none is given), the budget and the log buffer's length; the number returned, the steps, the place, and
 -- all that is logged and the block left where the row says it.
@@ -674,6 +675,82 @@ whyRows =
     ∷ noChain rowC (blockOf 1 2 0 (task 1 1 (pos 0) ++ task 1 1 (pos 0))) 65 22 2
     ∷ []
 
+-- ---- request 2.5 of document 02: many recipes checked together
+
+-- a buffer, the lengths, the bytes behind them in the list and those of the space; the number, and number and place of each recipe
+pub record BatchRow : Type 0 where
+  pub recipes : List ℕ
+  pub lengths : List ℕ
+  pub behind : List ℕ
+  pub room : ℕ
+  pub number : ℕ
+  pub told : List ℕ
+
+-- numbers, four bytes each
+abbrev pub words : List ℕ → List ℕ
+words [] = []
+words (n ∷ ns) = bytes4 n ++ words ns
+
+abbrev pub batch : List ℕ → List ℕ → List ℕ → BatchRow
+batch b l ns = record { recipes = b; lengths = l; behind = []; room = 8 * length l; number = 0; told = ns }
+
+-- with so many bytes of space
+abbrev pub noBatch : List ℕ → List ℕ → ℕ → BatchRow
+noBatch b l m = record { recipes = b; lengths = l; behind = []; room = m; number = 26; told = [] }
+
+-- with these bytes behind the lengths
+abbrev pub oddBatch : List ℕ → List ℕ → List ℕ → ℕ → BatchRow
+oddBatch b l bytes m = record { recipes = b; lengths = l; behind = bytes; room = m; number = 26; told = [] }
+
+abbrev pub skips : ℕ → List ℕ
+skips zero = []
+skips (suc n) = row 2 0 0 (pos 0) ++ skips n
+
+-- so many outcomes 11
+abbrev pub elevens : ℕ → List ℕ
+elevens zero = []
+elevens (suc n) = 11 ∷ 0 ∷ elevens n
+
+-- a procedure with so many skips and a set of variable 65, which is none
+abbrev pub badName : ℕ → List ℕ
+badName n = row 1 0 (n + 2) (pos 0) ++ skips n ++ row 3 65 1 (pos 0) ++ zero9
+
+abbrev pub batchRows : List BatchRow
+batchRows =
+    -- reading 22: "No recipes, an empty buffer and no space: 0"
+    batch [] [] []
+    ∷ batch rowA (72 ∷ []) (0 ∷ 0 ∷ [])
+    -- each outcome in its turn; a place of two bytes
+    ∷ batch (concat (rowC ∷ badName 2 ∷ rowB ∷ badName 300 ∷ [])) (16 ∷ 40 ∷ 48 ∷ 2424 ∷ []) (0 ∷ 0 ∷ 14 ∷ 3 ∷ 0 ∷ 0 ∷ 14 ∷ 301 ∷ [])
+    -- "A recipe of length 0, over 32,768 or not a multiple of 8 has outcome 11": cut into recipes by the list alone
+    ∷ batch (rowC ++ rowC) (0 ∷ 16 ∷ 12 ∷ 0 ∷ 4 ∷ []) (11 ∷ 0 ∷ 0 ∷ 0 ∷ 11 ∷ 0 ∷ 11 ∷ 0 ∷ 11 ∷ 0 ∷ [])
+    ∷ batch (rowC ++ rowC) (8 ∷ 8 ∷ 16 ∷ []) (13 ∷ 0 ∷ 12 ∷ 0 ∷ 0 ∷ 0 ∷ [])
+    ∷ batch (row 1 0 0 (pos 0) ++ replicate 32776 0) (8 ∷ 32776 ∷ []) (0 ∷ 0 ∷ 11 ∷ 0 ∷ [])
+    -- 64 recipes, and one more
+    ∷ batch [] (replicate 64 0) (elevens 64)
+    ∷ noBatch [] (replicate 65 0) 520
+    -- one to three bytes more in the list
+    ∷ oddBatch rowC (16 ∷ []) (0 ∷ []) 8
+    ∷ oddBatch rowC (16 ∷ []) (0 ∷ 0 ∷ []) 8
+    ∷ oddBatch rowC (16 ∷ []) (0 ∷ 0 ∷ 0 ∷ []) 8
+    ∷ oddBatch [] [] (0 ∷ []) 0
+    -- lengths that do not add up: one byte less, one more, none, and sums that have the buffer's length in their last 32 bits
+    ∷ noBatch rowC (15 ∷ []) 8
+    ∷ noBatch rowC (17 ∷ []) 8
+    ∷ noBatch rowC [] 0
+    ∷ noBatch [] (1 ∷ []) 8
+    ∷ noBatch rowC (4294967295 ∷ 17 ∷ []) 16
+    ∷ noBatch [] (2147483648 ∷ 2147483648 ∷ []) 16
+    -- a space that is longer or shorter, by a byte or an outcome
+    ∷ noBatch rowC (16 ∷ []) 7
+    ∷ noBatch rowC (16 ∷ []) 9
+    ∷ noBatch rowC (16 ∷ []) 0
+    ∷ noBatch rowC (16 ∷ []) 16
+    ∷ noBatch [] [] 8
+    -- 26, though a recipe is refused
+    ∷ noBatch (badName 0) (24 ∷ []) 9
+    ∷ []
+
 abbrev pub same : List ℕ → List ℕ → Bool
 same [] [] = true
 same [] (b ∷ m) = false
@@ -715,6 +792,18 @@ unfoldable pub allWhy : List WhyRow → Bool
 allWhy [] = true
 allWhy (x ∷ xs) = whyPasses x (whyOn (x .table) (x .block) (replicate (x .room) 7)) && allWhy xs
 
+-- a refusal leaves the space as it was
+abbrev pub left : ℕ → List ℕ → List ℕ → List ℕ
+left zero o ns = words ns
+left (suc n) o ns = o
+
+abbrev pub batchPasses : BatchRow → List ℕ → Checked → Bool
+batchPasses x o r = eqb (r .number) (x .number) && same (left (x .number) o (x .told)) (r .outcomes)
+
+unfoldable pub allBatch : List BatchRow → Bool
+allBatch [] = true
+allBatch (x ∷ xs) = batchPasses x (replicate (x .room) 7) (checkAllOn (x .recipes) (words (x .lengths) ++ x .behind) (replicate (x .room) 7)) && allBatch xs
+
 -- ---- the published list
 
 -- "Returned": the numbers of the table, and those of them at which state and log are "unchanged"; request 2.2: 24 is "no refusal"
@@ -727,6 +816,10 @@ returned = 0 ∷ 1 ∷ 2 ∷ 3 ∷ 4 ∷ 5 ∷ refusals ++ 24 ∷ []
 -- the numbers that the tool of request 2.4 gives
 abbrev pub whyReturned : List ℕ
 whyReturned = 0 ∷ refusals ++ 25 ∷ []
+
+-- those that the call of request 2.5 gives
+abbrev pub batchReturned : List ℕ
+batchReturned = 0 ∷ 26 ∷ []
 
 -- the numbers below n of which this holds
 abbrev pub those : (ℕ → Bool) → ℕ → List ℕ

@@ -1,8 +1,9 @@
-// Calls start, run, why_stuck and print on cases from standard input and prints what they return, a line each, with a checksum of each buffer that
-// they may write. A case is a record of 8 bytes (byte 0: what is called; bytes 4-7: the budget) and its buffers: table and, but for print, state
-// and, for run, log or, for why_stuck, chain.
+// Calls start, run, why_stuck, print and check_all on cases from standard input and prints what they return, a line each, with a checksum of each
+// buffer that they may write. A case is a record of 8 bytes (byte 0: what is called; bytes 4-7: the budget) and its buffers: table and, but for
+// print, state and, for run, log or, for why_stuck, chain; for check_all recipes, lengths and outcomes.
 // A buffer is a record of 8 bytes (bytes 2-3: how many bytes follow; bytes 4-7: the buffer's length) and these bytes; from there on each byte is as
 // the one 8 before it, so that a long row of one record is short.
+use batch::check_all;
 use libc::STDIN_FILENO;
 use libc::STDOUT_FILENO;
 use print::print_recipe;
@@ -126,6 +127,12 @@ fn try_why(table: &[u8], state: &[u8], chain: &mut [u8]) {
     print_last(chain);
 }
 
+fn try_batch(recipes: &[u8], lengths: &[u8], outcomes: &mut [u8]) {
+    let number = check_all(recipes, lengths, outcomes);
+    print(number as u64);
+    print_last(outcomes);
+}
+
 // The length of the text and its checksum.
 fn try_print(table: &[u8]) {
     let mut out = [0u8; 131072];
@@ -135,25 +142,28 @@ fn try_print(table: &[u8]) {
 }
 
 fn try_case(what: u8, budget: u32) {
-    let mut table = io::large_buffer();
-    let mut state = io::buffer();
-    let mut log = io::buffer();
-    let t = read_buffer(&mut table);
+    let mut first = io::large_buffer();
+    let mut second = io::buffer();
+    let mut third = io::buffer();
+    let f = read_buffer(&mut first);
     if what == 3 {
-        return try_print(&table[..t]);
+        return try_print(&first[..f]);
     }
-    let s = read_buffer(&mut state);
+    let s = read_buffer(&mut second);
     if what == 0 {
-        return try_start(&table[..t], &mut state[..s]);
+        return try_start(&first[..f], &mut second[..s]);
     }
-    let l = read_buffer(&mut log);
+    let t = read_buffer(&mut third);
     if what == 1 {
-        return try_run(&table[..t], &mut state[..s], budget, &mut log[..l]);
+        return try_run(&first[..f], &mut second[..s], budget, &mut third[..t]);
     }
     if what == 4 {
-        return try_why(&table[..t], &state[..s], &mut log[..l]);
+        return try_why(&first[..f], &second[..s], &mut third[..t]);
     }
-    try_on(&table[..t], &mut state[..s], budget, &mut log[..l]);
+    if what == 5 {
+        return try_batch(&first[..f], &second[..s], &mut third[..t]);
+    }
+    try_on(&first[..f], &mut second[..s], budget, &mut third[..t]);
 }
 
 // Whether there was another case.

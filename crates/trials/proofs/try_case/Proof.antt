@@ -19,11 +19,11 @@ slice-aggregate-read-buffer c = search needs
 read-buffer-requires : tie.Need-read-buffer-requires
 read-buffer-requires c κs = search needs
 
-array-share-prefix-table : tie.Need-array-share-prefix-table
-array-share-prefix-table c = search needs
+array-share-prefix-first : tie.Need-array-share-prefix-first
+array-share-prefix-first c = search needs
 
 slice-aggregate-try-print : tie.Need-slice-aggregate-try-print
-slice-aggregate-try-print c = let b = c .before .before .before .read-buffer in sym (length-take-le (b .result) (b .last .0) (b .ensures))
+slice-aggregate-try-print c = let k : tie.After-read-buffer = search needs in let b = k .read-buffer in sym (length-take-le (b .result) (b .last .0) (b .ensures))
 
 try-print-requires : tie.Need-try-print-requires
 try-print-requires c κs = search needs
@@ -37,17 +37,17 @@ slice-aggregate-read-buffer-2 c = search needs
 read-buffer-requires-2 : tie.Need-read-buffer-requires-2
 read-buffer-requires-2 c κs = search needs
 
-array-share-prefix-table-2 : tie.Need-array-share-prefix-table-2
-array-share-prefix-table-2 c = search needs
+array-share-prefix-first-2 : tie.Need-array-share-prefix-first-2
+array-share-prefix-first-2 c = search needs
 
 slice-aggregate-try-start : tie.Need-slice-aggregate-try-start
-slice-aggregate-try-start c = let b = c .before .before .before .before .before .before .before .read-buffer in sym (length-take-le (b .result) (b .last .0) (b .ensures))
+slice-aggregate-try-start c = let k : tie.After-read-buffer = search needs in let b = k .read-buffer in sym (length-take-le (b .result) (b .last .0) (b .ensures))
 
-array-borrow-prefix-state : tie.Need-array-borrow-prefix-state
-array-borrow-prefix-state c = search needs
+array-borrow-prefix-second : tie.Need-array-borrow-prefix-second
+array-borrow-prefix-second c = search needs
 
 slice-aggregate-try-start-2 : tie.Need-slice-aggregate-try-start-2
-slice-aggregate-try-start-2 c = let b = c .before .before .before .before .read-buffer2 in sym (length-take-le (b .result) (b .last .0) (b .ensures))
+slice-aggregate-try-start-2 c = let k : tie.After-read-buffer2 = search needs in let b = k .read-buffer2 in sym (length-take-le (b .result) (b .last .0) (b .ensures))
 
 try-start-requires : tie.Need-try-start-requires
 try-start-requires c κs = search needs
@@ -61,23 +61,23 @@ slice-aggregate-read-buffer-3 c = search needs
 read-buffer-requires-3 : tie.Need-read-buffer-requires-3
 read-buffer-requires-3 c κs = search needs
 
-array-share-prefix-table-3 : tie.Need-array-share-prefix-table-3
-array-share-prefix-table-3 c = search needs
+array-share-prefix-first-3 : tie.Need-array-share-prefix-first-3
+array-share-prefix-first-3 c = search needs
 
 slice-aggregate-try-run : tie.Need-slice-aggregate-try-run
-slice-aggregate-try-run c = let b = c .before .before .before .before .before .before .before .before .before .before .before .read-buffer in sym (length-take-le (b .result) (b .last .0) (b .ensures))
+slice-aggregate-try-run c = let k : tie.After-read-buffer = search needs in let b = k .read-buffer in sym (length-take-le (b .result) (b .last .0) (b .ensures))
 
-array-borrow-prefix-state-2 : tie.Need-array-borrow-prefix-state-2
-array-borrow-prefix-state-2 c = search needs
+array-borrow-prefix-second-2 : tie.Need-array-borrow-prefix-second-2
+array-borrow-prefix-second-2 c = search needs
 
 slice-aggregate-try-run-2 : tie.Need-slice-aggregate-try-run-2
-slice-aggregate-try-run-2 c = let b = c .before .before .before .before .before .before .before .before .read-buffer2 in sym (length-take-le (b .result) (b .last .0) (b .ensures))
+slice-aggregate-try-run-2 c = let k : tie.After-read-buffer2 = search needs in let b = k .read-buffer2 in sym (length-take-le (b .result) (b .last .0) (b .ensures))
 
-array-borrow-prefix-log : tie.Need-array-borrow-prefix-log
-array-borrow-prefix-log c = search needs
+array-borrow-prefix-third : tie.Need-array-borrow-prefix-third
+array-borrow-prefix-third c = search needs
 
 slice-aggregate-try-run-3 : tie.Need-slice-aggregate-try-run-3
-slice-aggregate-try-run-3 c = let b = c .before .before .before .before .before .read-buffer3 in sym (length-take-le (b .result) (b .last .0) (b .ensures))
+slice-aggregate-try-run-3 c = let k : tie.After-read-buffer3 = search needs in let b = k .read-buffer3 in sym (length-take-le (b .result) (b .last .0) (b .ensures))
 
 try-run-requires : tie.Need-try-run-requires
 try-run-requires c κs = search needs
@@ -85,23 +85,23 @@ try-run-requires c κs = search needs
 returns-3 : tie.Need-returns-3
 returns-3 c = search needs
 
-array-share-prefix-table-4 : tie.Need-array-share-prefix-table-4
-array-share-prefix-table-4 c = search needs
+array-share-prefix-first-4 : tie.Need-array-share-prefix-first-4
+array-share-prefix-first-4 c = search needs
 
 slice-aggregate-try-why : tie.Need-slice-aggregate-try-why
-slice-aggregate-try-why c = let b = c .before .before .before .before .before .before .before .before .before .before .before .before .read-buffer in sym (length-take-le (b .result) (b .last .0) (b .ensures))
+slice-aggregate-try-why c = let k : tie.After-read-buffer = search needs in let b = k .read-buffer in sym (length-take-le (b .result) (b .last .0) (b .ensures))
 
-array-share-prefix-state : tie.Need-array-share-prefix-state
-array-share-prefix-state c = search needs
+array-share-prefix-second : tie.Need-array-share-prefix-second
+array-share-prefix-second c = search needs
 
 slice-aggregate-try-why-2 : tie.Need-slice-aggregate-try-why-2
-slice-aggregate-try-why-2 c = let b = c .before .before .before .before .before .before .before .before .before .read-buffer2 in sym (length-take-le (b .result) (b .last .0) (b .ensures))
+slice-aggregate-try-why-2 c = let k : tie.After-read-buffer2 = search needs in let b = k .read-buffer2 in sym (length-take-le (b .result) (b .last .0) (b .ensures))
 
-array-borrow-prefix-log-2 : tie.Need-array-borrow-prefix-log-2
-array-borrow-prefix-log-2 c = search needs
+array-borrow-prefix-third-2 : tie.Need-array-borrow-prefix-third-2
+array-borrow-prefix-third-2 c = search needs
 
 slice-aggregate-try-why-3 : tie.Need-slice-aggregate-try-why-3
-slice-aggregate-try-why-3 c = let b = c .before .before .before .before .before .before .read-buffer3 in sym (length-take-le (b .result) (b .last .0) (b .ensures))
+slice-aggregate-try-why-3 c = let k : tie.After-read-buffer3 = search needs in let b = k .read-buffer3 in sym (length-take-le (b .result) (b .last .0) (b .ensures))
 
 try-why-requires : tie.Need-try-why-requires
 try-why-requires c κs = search needs
@@ -109,29 +109,53 @@ try-why-requires c κs = search needs
 returns-4 : tie.Need-returns-4
 returns-4 c = search needs
 
-array-share-prefix-table-5 : tie.Need-array-share-prefix-table-5
-array-share-prefix-table-5 c = search needs
+array-share-prefix-first-5 : tie.Need-array-share-prefix-first-5
+array-share-prefix-first-5 c = search needs
+
+slice-aggregate-try-batch : tie.Need-slice-aggregate-try-batch
+slice-aggregate-try-batch c = let k : tie.After-read-buffer = search needs in let b = k .read-buffer in sym (length-take-le (b .result) (b .last .0) (b .ensures))
+
+array-share-prefix-second-2 : tie.Need-array-share-prefix-second-2
+array-share-prefix-second-2 c = search needs
+
+slice-aggregate-try-batch-2 : tie.Need-slice-aggregate-try-batch-2
+slice-aggregate-try-batch-2 c = let k : tie.After-read-buffer2 = search needs in let b = k .read-buffer2 in sym (length-take-le (b .result) (b .last .0) (b .ensures))
+
+array-borrow-prefix-third-3 : tie.Need-array-borrow-prefix-third-3
+array-borrow-prefix-third-3 c = search needs
+
+slice-aggregate-try-batch-3 : tie.Need-slice-aggregate-try-batch-3
+slice-aggregate-try-batch-3 c = let k : tie.After-read-buffer3 = search needs in let b = k .read-buffer3 in sym (length-take-le (b .result) (b .last .0) (b .ensures))
+
+try-batch-requires : tie.Need-try-batch-requires
+try-batch-requires c κs = search needs
+
+returns-5 : tie.Need-returns-5
+returns-5 c = search needs
+
+array-share-prefix-first-6 : tie.Need-array-share-prefix-first-6
+array-share-prefix-first-6 c = search needs
 
 slice-aggregate-try-on : tie.Need-slice-aggregate-try-on
-slice-aggregate-try-on c = let b = c .before .before .before .before .before .before .before .before .before .before .before .before .read-buffer in sym (length-take-le (b .result) (b .last .0) (b .ensures))
+slice-aggregate-try-on c = let k : tie.After-read-buffer = search needs in let b = k .read-buffer in sym (length-take-le (b .result) (b .last .0) (b .ensures))
 
-array-borrow-prefix-state-3 : tie.Need-array-borrow-prefix-state-3
-array-borrow-prefix-state-3 c = search needs
+array-borrow-prefix-second-3 : tie.Need-array-borrow-prefix-second-3
+array-borrow-prefix-second-3 c = search needs
 
 slice-aggregate-try-on-2 : tie.Need-slice-aggregate-try-on-2
-slice-aggregate-try-on-2 c = let b = c .before .before .before .before .before .before .before .before .before .read-buffer2 in sym (length-take-le (b .result) (b .last .0) (b .ensures))
+slice-aggregate-try-on-2 c = let k : tie.After-read-buffer2 = search needs in let b = k .read-buffer2 in sym (length-take-le (b .result) (b .last .0) (b .ensures))
 
-array-borrow-prefix-log-3 : tie.Need-array-borrow-prefix-log-3
-array-borrow-prefix-log-3 c = search needs
+array-borrow-prefix-third-4 : tie.Need-array-borrow-prefix-third-4
+array-borrow-prefix-third-4 c = search needs
 
 slice-aggregate-try-on-3 : tie.Need-slice-aggregate-try-on-3
-slice-aggregate-try-on-3 c = let b = c .before .before .before .before .before .before .read-buffer3 in sym (length-take-le (b .result) (b .last .0) (b .ensures))
+slice-aggregate-try-on-3 c = let k : tie.After-read-buffer3 = search needs in let b = k .read-buffer3 in sym (length-take-le (b .result) (b .last .0) (b .ensures))
 
 try-on-requires : tie.Need-try-on-requires
 try-on-requires c κs = search needs
 
-returns-5 : tie.Need-returns-5
-returns-5 c = search needs
+returns-6 : tie.Need-returns-6
+returns-6 c = search needs
 
 pub try-case-spec : {M : Type 1} → statement M
 try-case-spec =
@@ -142,41 +166,49 @@ try-case-spec =
     buffer-requires-2
     slice-aggregate-read-buffer
     read-buffer-requires
-    array-share-prefix-table
+    array-share-prefix-first
     slice-aggregate-try-print
     try-print-requires
     returns
     slice-aggregate-read-buffer-2
     read-buffer-requires-2
-    array-share-prefix-table-2
+    array-share-prefix-first-2
     slice-aggregate-try-start
-    array-borrow-prefix-state
+    array-borrow-prefix-second
     slice-aggregate-try-start-2
     try-start-requires
     returns-2
     slice-aggregate-read-buffer-3
     read-buffer-requires-3
-    array-share-prefix-table-3
+    array-share-prefix-first-3
     slice-aggregate-try-run
-    array-borrow-prefix-state-2
+    array-borrow-prefix-second-2
     slice-aggregate-try-run-2
-    array-borrow-prefix-log
+    array-borrow-prefix-third
     slice-aggregate-try-run-3
     try-run-requires
     returns-3
-    array-share-prefix-table-4
+    array-share-prefix-first-4
     slice-aggregate-try-why
-    array-share-prefix-state
+    array-share-prefix-second
     slice-aggregate-try-why-2
-    array-borrow-prefix-log-2
+    array-borrow-prefix-third-2
     slice-aggregate-try-why-3
     try-why-requires
     returns-4
-    array-share-prefix-table-5
+    array-share-prefix-first-5
+    slice-aggregate-try-batch
+    array-share-prefix-second-2
+    slice-aggregate-try-batch-2
+    array-borrow-prefix-third-3
+    slice-aggregate-try-batch-3
+    try-batch-requires
+    returns-5
+    array-share-prefix-first-6
     slice-aggregate-try-on
-    array-borrow-prefix-state-3
+    array-borrow-prefix-second-3
     slice-aggregate-try-on-2
-    array-borrow-prefix-log-3
+    array-borrow-prefix-third-4
     slice-aggregate-try-on-3
     try-on-requires
-    returns-5)
+    returns-6)

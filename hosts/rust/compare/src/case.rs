@@ -1,5 +1,6 @@
-//! A case: one table, one block and a list of calls; and playing it on the library and on the model.
+//! A case: one table, one block and a list of calls, and a batch; and playing it on the library and on the model.
 
+use crate::batch::Batch;
 use std::fmt;
 
 /// One run call. The log's content before the call counts: bytes past the last record are kept.
@@ -10,7 +11,7 @@ pub struct Call {
 }
 
 /// The inputs of one start and of a list of run calls, each on the block that the last one left. Before the first of
-/// them and after each it is asked why the block is stuck.
+/// them and after each it is asked why the block is stuck. Last, a batch of other recipes is checked.
 #[derive(Clone, Debug, PartialEq, Eq)]
 pub struct Case {
     pub table: Vec<u8>,
@@ -20,6 +21,8 @@ pub struct Case {
     pub calls: Vec<Call>,
     /// The output that is lent for a chain. Its content counts as a log's does.
     pub chain: Vec<u8>,
+    /// Most cases have one without recipes.
+    pub batch: Batch,
 }
 
 /// What was called.
@@ -28,10 +31,11 @@ pub enum Called {
     Start,
     WhyStuck,
     Run,
+    CheckAll,
 }
 
-/// What one call leaves: the numbers returned (place; count, end and place; or steps, records and place), the block, and
-/// the chain or the log.
+/// What one call leaves: the numbers returned (place; count, end and place; steps, records and place; or none but the
+/// first), the block, and the chain, the log or the outcomes.
 #[derive(Clone, Debug, PartialEq, Eq)]
 pub struct Outcome {
     pub called: Called,
@@ -47,6 +51,8 @@ pub type Start = fn(&[u8], &mut [u8]) -> [u32; 2];
 pub type Run = fn(&[u8], &mut [u8], u32, &mut [u8]) -> [u32; 4];
 /// Takes table, block and chain; gives number, count, end and place.
 pub type WhyStuck = fn(&[u8], &[u8], &mut [u8]) -> [u32; 4];
+/// Takes recipes, lengths and outcomes; gives the number.
+pub type CheckAll = fn(&[u8], &[u8], &mut [u8]) -> u32;
 
 /// The operations of the library, of the model, or of a stand-in.
 #[derive(Clone, Copy)]
@@ -54,6 +60,7 @@ pub struct Side {
     pub start: Start,
     pub run: Run,
     pub why_stuck: WhyStuck,
+    pub check_all: CheckAll,
 }
 
 pub const LIBRARY: Side = Side {
@@ -69,6 +76,7 @@ pub const LIBRARY: Side = Side {
         let got = recipe_runner::why_stuck(table, state, chain);
         [got.number, got.count, got.end, got.place]
     },
+    check_all: recipe_runner::check_all,
 };
 
 pub const MODEL: Side = Side {
@@ -84,12 +92,13 @@ pub const MODEL: Side = Side {
         let got = recipe_model::why_stuck(table, state, chain);
         [got.number, got.count, got.end, got.place]
     },
+    check_all: recipe_model::check_all,
 };
 
-/// The outcomes of the start, and then by turns why the block is stuck, and a run call.
+/// The outcomes of the start, then by turns why the block is stuck, and a run call; and of the batch.
 pub fn play(case: &Case, side: &Side) -> Vec<Outcome> {
     let mut block = case.block.clone();
-    let mut outcomes = Vec::with_capacity(2 * case.calls.len() + 2);
+    let mut outcomes = Vec::with_capacity(2 * case.calls.len() + 3);
     let [number, place] = (side.start)(&case.table, &mut block);
     let others = [0, 0, place];
     outcomes.push(Outcome { called: Called::Start, number, others, block: block.clone(), output: Vec::new() });
@@ -103,6 +112,7 @@ pub fn play(case: &Case, side: &Side) -> Vec<Outcome> {
         outcomes.push(Outcome { called: Called::Run, number, others, block: block.clone(), output: log });
         outcomes.push(explain(case, side, &block));
     }
+    outcomes.push(check_batch(&case.batch, side));
     outcomes
 }
 
@@ -111,6 +121,13 @@ fn explain(case: &Case, side: &Side, block: &[u8]) -> Outcome {
     let (block, mut output) = (block.to_vec(), case.chain.clone());
     let [number, others @ ..] = (side.why_stuck)(&case.table, &block, &mut output);
     Outcome { called: Called::WhyStuck, number, others, block, output }
+}
+
+/// The check of a batch, which has no block.
+fn check_batch(batch: &Batch, side: &Side) -> Outcome {
+    let mut output = batch.outcomes.clone();
+    let number = (side.check_all)(&batch.recipes, &batch.lengths, &mut output);
+    Outcome { called: Called::CheckAll, number, others: [0; 3], block: Vec::new(), output }
 }
 
 /// The first call whose outcomes differ, 0 being the start, with both outcomes.
@@ -140,7 +157,7 @@ pub fn is_tame(case: &Case) -> bool {
     if case.calls.iter().all(|call| call.budget <= TAME) {
         return true;
     }
-    let mut held = case.clone();
+    let mut held = Case { batch: Batch::default(), ..case.clone() };
     for call in &mut held.calls {
         call.budget = call.budget.min(TAME);
     }
@@ -170,7 +187,8 @@ impl fmt::Display for Case {
         for call in &self.calls {
             writeln!(f, "run with budget {} and log {}", call.budget, hex(&call.log))?;
         }
-        Ok(())
+        let Batch { recipes, lengths, outcomes } = &self.batch;
+        writeln!(f, "batch {}\n  lengths {}\n  outcomes {}", hex(recipes), hex(lengths), hex(outcomes))
     }
 }
 
@@ -180,11 +198,12 @@ impl fmt::Display for Difference {
             Called::Start => ("the start".to_string(), "0, 0, place"),
             Called::WhyStuck => (format!("why stuck, after {} run calls", self.call / 2), "count, end, place"),
             Called::Run => (format!("run call {}", self.call / 2), "steps, records, place"),
+            Called::CheckAll => ("the check of the batch".to_string(), "0, 0, 0"),
         };
-        writeln!(f, "first difference: {name} (number, then {others}; block; chain or log)")?;
+        writeln!(f, "first difference: {name} (number, then {others}; block; chain, log or outcomes)")?;
         for (side, outcome) in [("left ", &self.left), ("right", &self.right)] {
             let (block, output) = (hex(&outcome.block), hex(&outcome.output));
-            writeln!(f, "{side} {} {:?}\n  block {block}\n  chain or log {output}", outcome.number, outcome.others)?;
+            writeln!(f, "{side} {} {:?}\n  block {block}\n  output {output}", outcome.number, outcome.others)?;
         }
         Ok(())
     }

@@ -11,6 +11,9 @@ pub const RUN_NUMBERS: [u32; 16] = [0, 1, 2, 3, 4, 5, 11, 12, 13, 14, 15, 16, 17
 pub const START_NUMBERS: [u32; 9] = [0, 11, 12, 13, 14, 15, 16, 17, 21];
 /// The published numbers that a question why a state is stuck can return.
 pub const WHY_NUMBERS: [u32; 11] = [0, 11, 12, 13, 14, 15, 16, 17, 21, 22, 25];
+/// The published numbers that the check of a batch can return, and that a recipe of it can have.
+pub const BATCH_NUMBERS: [u32; 2] = [0, 26];
+pub const OUTCOME_NUMBERS: [u32; 8] = [0, 11, 12, 13, 14, 15, 16, 17];
 
 /// What was compared.
 #[derive(Default)]
@@ -31,6 +34,10 @@ pub struct Coverage {
     pub whys: BTreeMap<u32, u64>,
     pub ends: BTreeMap<u32, u64>,
     pub chains: BTreeMap<u32, u64>,
+    /// How many batches had this number; how many accepted ones so many recipes, and how many of these this number.
+    pub batches: BTreeMap<u32, u64>,
+    pub sizes: BTreeMap<u32, u64>,
+    pub outcomes: BTreeMap<u32, u64>,
 }
 
 /// Counts one more under a key.
@@ -67,6 +74,7 @@ impl Coverage {
                     self.count_run(case, outcome, !runs.contains(&outcome.number));
                     runs.push(outcome.number);
                 }
+                Called::CheckAll => self.count_batch(outcome),
             }
         }
     }
@@ -77,6 +85,17 @@ impl Coverage {
         if outcome.number == 0 {
             add(&mut self.ends, end);
             add(&mut self.chains, count);
+        }
+    }
+
+    fn count_batch(&mut self, outcome: &Outcome) {
+        add(&mut self.batches, outcome.number);
+        if outcome.number == 0 {
+            let outcomes = outcome.output.as_chunks::<8>().0;
+            add(&mut self.sizes, outcomes.len() as u32);
+            for &[n0, n1, n2, n3, ..] in outcomes {
+                add(&mut self.outcomes, u32::from_le_bytes([n0, n1, n2, n3]));
+            }
         }
     }
 
@@ -99,7 +118,8 @@ impl Coverage {
     }
 
     /// Whether every published number except 23 occurred, 22 at every record that can be at fault, 24 at every kind of
-    /// statement that needs a value, every kind of log record, and chains of every end and of every length.
+    /// statement that needs a value, every kind of log record, chains of every end and of every length, and batches of
+    /// every size.
     pub fn is_whole(&self) -> bool {
         START_NUMBERS.iter().all(|number| self.starts.contains_key(number))
             && RUN_NUMBERS.iter().all(|number| self.runs.contains_key(number))
@@ -109,6 +129,9 @@ impl Coverage {
             && WHY_NUMBERS.iter().all(|number| self.whys.contains_key(number))
             && (1..=3).all(|end| self.ends.contains_key(&end))
             && (1..=33).all(|count| self.chains.contains_key(&count))
+            && BATCH_NUMBERS.iter().all(|number| self.batches.contains_key(number))
+            && (0..=64).all(|count| self.sizes.contains_key(&count))
+            && OUTCOME_NUMBERS.iter().all(|number| self.outcomes.contains_key(number))
     }
 }
 
@@ -127,6 +150,9 @@ impl fmt::Display for Coverage {
         writeln!(f, "log records by kind: {}", row(&self.records))?;
         writeln!(f, "questions why a state is stuck by number: {}", row(&self.whys))?;
         writeln!(f, "chains by end: {}", row(&self.ends))?;
-        writeln!(f, "chains by how many numbers: {}", row(&self.chains))
+        writeln!(f, "chains by how many numbers: {}", row(&self.chains))?;
+        writeln!(f, "batches by number, most of them without recipes: {}", row(&self.batches))?;
+        writeln!(f, "accepted batches by how many recipes: {}", row(&self.sizes))?;
+        writeln!(f, "recipes of accepted batches by number: {}", row(&self.outcomes))
     }
 }

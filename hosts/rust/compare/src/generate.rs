@@ -1,5 +1,6 @@
-//! Random cases: tables, blocks, budgets, logs and chains, that pass and that do not.
+//! Random cases: tables, blocks, budgets, logs, chains and batches, that pass and that do not.
 
+use crate::batch::{random_batch, Batch};
 use crate::block::{damage_block, random_block, waiting_block, BLOCK, TASKS, WAYS};
 use crate::case::{is_tame, Call, Case, TAME};
 use crate::damage::{damage_table, odd_length, raw_table};
@@ -24,7 +25,8 @@ pub fn random_case(random: &mut Random) -> Case {
     let count = random.pick(&[1, 1, 2, 3, 5]);
     let calls = (0..count).map(|_| random_call(random)).collect();
     let chain = random_chain(random);
-    let mut case = Case { table, block, fresh, calls, chain };
+    let batch = if random.percent(8) { any_batch(random) } else { Batch::default() };
+    let mut case = Case { table, block, fresh, calls, chain, batch };
     if !is_tame(&case) {
         for call in &mut case.calls {
             call.budget = call.budget.min(TAME);
@@ -36,6 +38,20 @@ pub fn random_case(random: &mut Random) -> Case {
 fn any_recipe(random: &mut Random) -> Recipe {
     let style = Style::any(random);
     random_recipe(random, &style)
+}
+
+/// A batch, mostly of short recipes, some of them empty or at fault.
+pub fn any_batch(random: &mut Random) -> Batch {
+    let longest = random.pick(&[8, 8, 30, 30, 100]);
+    random_batch(random, |random| {
+        if random.percent(4) {
+            return Vec::new();
+        }
+        let any = Style::any(random);
+        let records = if random.percent(99) { any.records.min(longest) } else { any.records };
+        let recipe = random_recipe(random, &Style { records, procedures: any.procedures.min(records), ..any });
+        random_table(random, &recipe)
+    })
 }
 
 fn random_table(random: &mut Random, recipe: &Recipe) -> Vec<u8> {

@@ -4,6 +4,7 @@
 //! small. [`view`] is for the tests without the model. The workloads of the benchmark are in [`workloads`], and how
 //! their cost grows is drawn by [`growth`].
 
+pub mod batch;
 pub mod block;
 pub mod case;
 pub mod check;

@@ -1,6 +1,8 @@
 //! Makes a case that differs small: each pass tries smaller cases and keeps those that still differ.
 
+use crate::batch::Batch;
 use crate::case::{is_tame, Case, MODEL};
+use recipe_runner::{LENGTH, OUTCOME};
 use std::time::{Duration, Instant};
 
 /// After this time the smallest case so far is taken: a long table has many smaller ones.
@@ -19,6 +21,7 @@ pub fn shrink(case: &Case, differs: &dyn Fn(&Case) -> bool) -> Case {
         shrinker.leaves();
         shrinker.hoist();
         shrinker.tasks();
+        shrinker.batch();
         shrinker.lengths();
         shrinker.zeros();
         if shrinker.best == before {
@@ -146,19 +149,33 @@ impl Shrinker<'_> {
         }
     }
 
-    /// Cuts bytes off the table, the block and the chain; a fresh block is simpler than a lent one.
+    /// Takes recipes out of the batch, with their lengths and outcomes, from the last; then cuts those that are left.
+    fn batch(&mut self) {
+        self.attempt(|case| case.batch = Batch::default());
+        for i in (0..self.best.batch.count()).rev() {
+            self.attempt(|case| take_recipe_out(&mut case.batch, i));
+        }
+        for (i, piece) in (0..self.best.batch.count()).flat_map(|i| [64, 8, 1].map(|piece| (i, piece))) {
+            while self.attempt(|case| cut_recipe(&mut case.batch, i, piece)) {}
+        }
+    }
+
+    /// Cuts bytes off the table, the block, the chain and the batch; a fresh block is simpler than a lent one.
     fn lengths(&mut self) {
         self.attempt(|case| case.fresh = true);
         for piece in [64, 8, 1] {
             while self.attempt(|case| cut(&mut case.table, piece)) {}
             while self.attempt(|case| cut(&mut case.block, piece)) {}
             while self.attempt(|case| cut(&mut case.chain, piece)) {}
+            while self.attempt(|case| cut(&mut case.batch.recipes, piece)) {}
+            while self.attempt(|case| cut(&mut case.batch.lengths, piece)) {}
+            while self.attempt(|case| cut(&mut case.batch.outcomes, piece)) {}
         }
     }
 
     /// Makes bytes 0: whole buffers, then records, then single bytes, else lowers them.
     fn zeros(&mut self) {
-        for buffer in 0..self.best.calls.len() + 3 {
+        for buffer in 0..self.best.calls.len() + 6 {
             let length = bytes(&mut self.best, buffer).len();
             for piece in [length.max(1), 64, 8, 1] {
                 for at in (0..length).step_by(piece) {
@@ -196,13 +213,34 @@ fn cut(bytes: &mut Vec<u8>, count: usize) {
     }
 }
 
-/// The table, the block, the chain, or a call's log.
+/// Takes a recipe out of a batch.
+fn take_recipe_out(batch: &mut Batch, i: usize) {
+    let Some(bytes) = batch.bytes_of(i) else { return };
+    batch.recipes.drain(bytes);
+    batch.lengths.drain(LENGTH * i..LENGTH * (i + 1));
+    if batch.outcomes.len() >= OUTCOME * (i + 1) {
+        batch.outcomes.drain(OUTCOME * i..OUTCOME * (i + 1));
+    }
+}
+
+/// Cuts bytes off a recipe of a batch, if it has as many.
+fn cut_recipe(batch: &mut Batch, i: usize, count: usize) {
+    let Some(bytes) = batch.bytes_of(i).filter(|bytes| bytes.len() >= count) else { return };
+    let length = (bytes.len() - count) as u32;
+    batch.recipes.drain(bytes.end - count..bytes.end);
+    batch.lengths[LENGTH * i..LENGTH * (i + 1)].copy_from_slice(&length.to_le_bytes());
+}
+
+/// The table, the block, the chain, the buffers of the batch, or a call's log.
 fn bytes(case: &mut Case, buffer: usize) -> &mut [u8] {
     match buffer {
         0 => &mut case.table,
         1 => &mut case.block,
         2 => &mut case.chain,
-        _ => &mut case.calls[buffer - 3].log,
+        3 => &mut case.batch.recipes,
+        4 => &mut case.batch.lengths,
+        5 => &mut case.batch.outcomes,
+        _ => &mut case.calls[buffer - 6].log,
     }
 }
 

@@ -1,9 +1,12 @@
-//! The benchmark's workloads: each is one call, made again and again from the same block.
+//! The benchmark's workloads: each is one call, or a call for each recipe of a batch, made again and again from the same
+//! block.
 
+use crate::batch::Batch;
 use crate::block::TASKS;
 use crate::case::Side;
 use crate::generate::CHAIN;
 use crate::recipe::{Recipe, AWAIT, GUARD, IF, QUOTIENT, SET, SKIP, SUSPEND, TWO};
+use recipe_runner::BATCH;
 use std::hint::black_box;
 
 /// The most records of a table.
@@ -32,6 +35,10 @@ pub enum Unit {
     Record,
     /// A question why the state is stuck, by itself.
     Why,
+    /// A check of a batch, by its recipes.
+    Batch,
+    /// A start on each recipe of a batch, by the recipes.
+    Starts,
 }
 
 pub struct Workload {
@@ -41,6 +48,8 @@ pub struct Workload {
     /// The block that each call begins with.
     block: Vec<u8>,
     budget: u32,
+    /// The recipes that are checked together or one by one; other workloads have none.
+    batch: Batch,
 }
 
 impl Workload {
@@ -50,7 +59,12 @@ impl Workload {
         let mut block = vec![0; 520];
         assert_eq!(recipe_model::start(&table, &mut block).number, 0, "{name}");
         recipe_model::run(&table, &mut block, warm, &mut vec![0; 8 * STEPS as usize]);
-        Workload { name, unit, table, block, budget }
+        Workload { name, unit, table, block, budget, batch: Batch::default() }
+    }
+
+    /// Recipes that all pass, checked together or one by one.
+    fn of_batch(name: &'static str, unit: Unit, recipes: &[Vec<u8>]) -> Workload {
+        Workload { name, unit, table: Vec::new(), block: vec![0; 520], budget: 0, batch: Batch::of(recipes) }
     }
 
     /// How many units a call has.
@@ -59,31 +73,43 @@ impl Workload {
             Unit::Step => f64::from(self.budget),
             Unit::Call | Unit::Start | Unit::Why => 1.0,
             Unit::Record => (self.table.len() / 8) as f64,
+            Unit::Batch | Unit::Starts => self.batch.count() as f64,
         }
     }
 
-    /// Makes as many calls on a side. A run must use its budget up, and a chain must be the longest one.
+    /// Makes as many calls on a side. A run must use its budget up, a chain must be the longest one, and each recipe must
+    /// pass.
     pub fn make(&self, side: &Side, calls: u32) {
         let mut block = self.block.clone();
         let mut log = vec![0; 8 * STEPS as usize];
         let mut chain = [0; CHAIN];
+        let mut outcomes = self.batch.outcomes.clone();
+        let passed = vec![0; outcomes.len()];
+        let recipes = self.batch.tables();
         for _ in 0..calls {
             block.copy_from_slice(&self.block);
             let table = black_box(&self.table);
             let good = match self.unit {
                 Unit::Start | Unit::Record => (side.start)(table, &mut block) == [0, 0],
                 Unit::Why => (side.why_stuck)(table, &block, &mut chain) == [0, LONGEST, 1, 0],
-                _ => (side.run)(table, &mut block, self.budget, &mut log)[..2] == [1, self.budget],
+                Unit::Batch => {
+                    let Batch { recipes, lengths, .. } = black_box(&self.batch);
+                    (side.check_all)(recipes, lengths, &mut outcomes) == 0 && outcomes == passed
+                }
+                Unit::Starts => black_box(&recipes).iter().all(|table| (side.start)(table, &mut block) == [0, 0]),
+                Unit::Step | Unit::Call => {
+                    (side.run)(table, &mut block, self.budget, &mut log)[..2] == [1, self.budget]
+                }
             };
             assert!(good, "{}", self.name);
-            black_box((&mut block, &mut log, &mut chain));
+            black_box((&mut block, &mut log, &mut chain, &mut outcomes));
         }
     }
 }
 
 /// All workloads, in the order of the report.
 pub fn workloads() -> Vec<Workload> {
-    use Unit::{Call, Record, Step, Why};
+    use Unit::{Batch, Call, Record, Starts, Step, Why};
     vec![
         Workload::new("loop", Step, local_loop(), 0, STEPS),
         suspend(31),
@@ -97,6 +123,8 @@ pub fn workloads() -> Vec<Workload> {
         Workload::new("why-stuck", Why, circle(), WARM, 0),
         Workload::new("check-flat", Record, flat_table(), 0, 0),
         Workload::new("check-expressions", Record, expression_table(), 0, 0),
+        Workload::of_batch("check-batch", Batch, &season()),
+        Workload::of_batch("check-one-by-one", Starts, &season()),
     ]
 }
 
@@ -276,6 +304,11 @@ fn mixed_table(records: usize) -> Recipe {
         });
     });
     recipe
+}
+
+/// The largest batch: 64 tables of statements and expressions, of 33 to 96 records.
+fn season() -> Vec<Vec<u8>> {
+    (0..BATCH).map(|i| mixed_table(33 + i).table).collect()
 }
 
 /// A table of 4,096 records, statements without expressions.

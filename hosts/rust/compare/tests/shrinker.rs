@@ -119,6 +119,52 @@ fn an_open_circle_shrinks_to_a_few_waiters() {
     }
 }
 
+/// A side that loses the place of a recipe behind another one.
+const LOSES_LATER_PLACES: Side = Side {
+    check_all: |recipes, lengths, outcomes| {
+        let number = (MODEL.check_all)(recipes, lengths, outcomes);
+        if number == 0 {
+            outcomes.chunks_exact_mut(8).skip(1).for_each(|outcome| outcome[4..].fill(0));
+        }
+        number
+    },
+    ..MODEL
+};
+
+#[test]
+fn a_lost_place_in_a_batch_shrinks_to_two_short_recipes() {
+    for case in shrunk(&LOSES_LATER_PLACES, 12) {
+        assert_eq!((case.table.len(), case.block.len(), case.calls.len()), (0, 0, 0), "{case}");
+        assert_eq!((case.batch.count(), case.batch.outcomes.len()), (2, 16), "{case}");
+        assert!(case.batch.recipes.len() <= 40, "{case}");
+    }
+}
+
+/// A side that adds the lengths up in 32 bits.
+const WRAPS_THE_SUM: Side = Side {
+    check_all: |recipes, lengths, outcomes| match (MODEL.check_all)(recipes, lengths, outcomes) {
+        26 if sum_wraps(recipes, lengths) => 0,
+        number => number,
+    },
+    ..MODEL
+};
+
+fn sum_wraps(recipes: &[u8], lengths: &[u8]) -> bool {
+    let words = lengths.as_chunks().0.iter().map(|length| u32::from_le_bytes(*length));
+    let (sum, wrapped) = words.fold((0, false), |(sum, wrapped): (u32, bool), length| {
+        let (sum, over) = sum.overflowing_add(length);
+        (sum, wrapped | over)
+    });
+    wrapped && sum as usize == recipes.len()
+}
+
+#[test]
+fn a_sum_that_wraps_shrinks_to_two_lengths() {
+    for case in shrunk(&WRAPS_THE_SUM, 13) {
+        assert_eq!((case.batch.count(), case.batch.outcomes.len()), (2, 0), "{case}");
+    }
+}
+
 #[test]
 fn right_sides_do_not_differ() {
     for i in 0..200 {

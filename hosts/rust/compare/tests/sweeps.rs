@@ -1,6 +1,7 @@
 //! Whole families of inputs, the library against the model: every way that a block can fail at every record, every
 //! byte of a table, every small table, every statement over a quotient by 0, and every small queue of tasks that wait.
 
+use compare::batch::Batch;
 use compare::block::{block_of, damage_block, put_number, put_place, put_value, TASKS, WAYS};
 use compare::case::{Call, Case};
 use compare::check::Coverage;
@@ -15,12 +16,13 @@ fn calls(budgets: &[u32]) -> Vec<Call> {
 
 /// Run calls of these budgets from the block that a start leaves.
 fn from_fresh(table: Vec<u8>, budgets: &[u32]) -> Case {
-    Case { table, block: vec![1; 520], fresh: true, calls: calls(budgets), chain: vec![0xa5; CHAIN] }
+    Case { fresh: true, ..from_block(&table, vec![1; 520], budgets) }
 }
 
 /// The same from a lent block.
 fn from_block(table: &[u8], block: Vec<u8>, budgets: &[u32]) -> Case {
-    Case { table: table.to_vec(), block, fresh: false, calls: calls(budgets), chain: vec![0xa5; CHAIN] }
+    let (table, calls, chain) = (table.to_vec(), calls(budgets), vec![0xa5; CHAIN]);
+    Case { table, block, fresh: false, calls, chain, batch: Batch::default() }
 }
 
 /// A recipe with every kind of record.

@@ -1,7 +1,7 @@
-//! The rows "From the trial press", rows for guards, for zero divisors and for the chains of stuck states, and the
-//! readings that look natural and are wrong.
+//! The rows "From the trial press", rows for guards, for zero divisors, for the chains of stuck states and for batches of
+//! recipes, and the readings that look natural and are wrong.
 
-use recipe_model::{print, run, start, why_stuck, Answer, Explained, Started};
+use recipe_model::{check_all, print, run, start, why_stuck, Answer, Explained, Started};
 
 type Row = (u8, u8, u16, i32);
 /// A log record: kind, task, valve, value.
@@ -703,5 +703,168 @@ fn refusals_of_a_chain_in_their_order() {
             assert_eq!(why_stuck(table, state, &mut chain), expected, "{i} {length}");
             assert_eq!(chain, vec![0xa5; length]);
         }
+    }
+}
+
+/// A list of lengths.
+fn list(lengths: &[u32]) -> Vec<u8> {
+    lengths.iter().flat_map(|length| length.to_le_bytes()).collect()
+}
+
+/// What a batch gives: the number, and the space, of so many bytes, as it is then.
+fn checked_in(recipes: &[u8], lengths: &[u8], space: usize) -> (u32, Vec<u8>) {
+    let mut outcomes = vec![0xa5; space];
+    (check_all(recipes, lengths, &mut outcomes), outcomes)
+}
+
+/// The outcomes of recipes in a batch that is accepted: number and place of each.
+fn outcomes(recipes: &[Vec<u8>]) -> Vec<(u32, u32)> {
+    let lengths: Vec<u32> = recipes.iter().map(|recipe| recipe.len() as u32).collect();
+    let (number, outcomes) = checked_in(&recipes.concat(), &list(&lengths), 8 * recipes.len());
+    assert_eq!(number, 0);
+    let words: Vec<u32> = outcomes.as_chunks().0.iter().map(|word| u32::from_le_bytes(*word)).collect();
+    words.chunks(2).map(|pair| (pair[0], pair[1])).collect()
+}
+
+/// A batch that is refused, whatever its recipes: the space keeps its content.
+fn is_no_batch(recipes: &[u8], lengths: &[u8], space: usize) {
+    assert_eq!(checked_in(recipes, lengths, space), (26, vec![0xa5; space]), "{lengths:?} {space}");
+}
+
+/// Tables of each refusal but 11, with the number and the place.
+fn faulty() -> Vec<(Vec<u8>, (u32, u32))> {
+    let rows: [(Vec<Row>, (u32, u32)); 6] = [
+        (vec![(1, 0, 1, 0), (9, 0, 0, 0)], (12, 1)),
+        (vec![(1, 0, 2, 0), (2, 0, 0, 0), (3, 8, 0, 0)], (13, 2)),
+        (vec![(1, 1, 0, 0)], (14, 0)),
+        (vec![(1, 0, 3, 0), (2, 0, 0, 0), (2, 0, 0, 0), (2, 0, 0, 1)], (15, 3)),
+        (nested(17), (16, 17)),
+        (vec![(1, 0, 2, 0), (6, 8, 1, 1), (9, 0, 0, 0)], (17, 1)),
+    ];
+    rows.into_iter().map(|(rows, outcome)| (table(&rows), outcome)).collect()
+}
+
+#[test]
+fn no_recipes_at_all() {
+    assert_eq!(checked_in(&[], &[], 0), (0, vec![]));
+    is_no_batch(&[], &[], 8);
+    is_no_batch(&[0], &[], 0);
+    is_no_batch(&table(&A), &[], 0);
+}
+
+#[test]
+fn one_recipe() {
+    assert_eq!(outcomes(&[table(&A)]), [(0, 0)]);
+    for (faulty, outcome) in faulty() {
+        assert_eq!(outcomes(&[faulty]), [outcome]);
+    }
+}
+
+#[test]
+fn each_recipe_has_its_own_outcome_in_turn() {
+    let fine = (table(&A), (0, 0));
+    for (at, faulty) in (0..5).flat_map(|at| faulty().into_iter().map(move |faulty| (at, faulty))) {
+        let mut batch = vec![fine.clone(); 5];
+        batch[at] = faulty;
+        let (recipes, expected): (Vec<_>, Vec<_>) = batch.into_iter().unzip();
+        assert_eq!(outcomes(&recipes), expected, "{at}");
+    }
+    let (recipes, expected): (Vec<_>, Vec<_>) = faulty().into_iter().chain([fine]).chain(faulty()).unzip();
+    assert_eq!(outcomes(&recipes), expected);
+}
+
+#[test]
+fn both_bytes_of_a_place_are_written() {
+    let mut rows = vec![(2, 0, 0, 0); 4_096];
+    (rows[0], rows[4_095]) = ((1, 0, 4_095, 0), (8, 65, 0, 0));
+    assert_eq!(outcomes(&[table(&A), table(&rows), table(&rows[..1])]), [(0, 0), (14, 4_095), (13, 0)]);
+}
+
+#[test]
+fn recipes_of_a_length_that_no_table_has() {
+    for length in [0, 1, 4, 7, 9, 12, 32_767, 32_769, 32_776, 40_000] {
+        let odd = table(&A).into_iter().cycle().take(length).collect();
+        assert_eq!(outcomes(&[table(&A), odd, table(&F)]), [(0, 0), (11, 0), (0, 0)], "{length}");
+    }
+    assert_eq!(outcomes(&[vec![], vec![]]), [(11, 0); 2]);
+    assert_eq!(outcomes(&[table(&[(1, 0, 0, 0)]).repeat(4_096), table(&A)]), [(0, 0); 2]);
+}
+
+#[test]
+fn the_most_recipes() {
+    for count in [63, 64] {
+        assert_eq!(outcomes(&vec![table(&A); count]), vec![(0, 0); count]);
+        assert_eq!(outcomes(&vec![vec![]; count]), vec![(11, 0); count]);
+    }
+    for count in [65, 66, 128, 256] {
+        is_no_batch(&table(&A).repeat(count), &list(&vec![72; count]), 8 * count);
+        is_no_batch(&[], &list(&vec![0; count]), 8 * count);
+        is_no_batch(&table(&A).repeat(count), &list(&vec![72; count]), 8 * 64);
+    }
+}
+
+#[test]
+fn lists_that_are_not_a_multiple_of_four() {
+    for count in [0, 1, 2, 63, 64] {
+        for more in 1..4 {
+            let lengths = [list(&vec![72; count]), vec![0; more]].concat();
+            is_no_batch(&table(&A).repeat(count), &lengths, 8 * count);
+            is_no_batch(&table(&A).repeat(count), &lengths, 8 * (count + 1));
+        }
+    }
+    is_no_batch(&table(&A), &[72, 0, 0], 8);
+}
+
+#[test]
+fn lengths_that_do_not_add_up() {
+    let recipes = table(&A).repeat(3);
+    assert_eq!(checked_in(&recipes, &list(&[72, 72, 72]), 24).0, 0);
+    for lengths in [[72, 72, 71], [72, 72, 73], [64, 72, 72], [80, 72, 72], [72, 0, 72], [216, 72, 72], [217, 0, 0]] {
+        is_no_batch(&recipes, &list(&lengths), 24);
+    }
+    is_no_batch(&recipes, &list(&[72, 72]), 16);
+    is_no_batch(&recipes, &list(&[72, 72, 72, 72]), 32);
+    is_no_batch(&recipes[1..], &list(&[72, 72, 72]), 24);
+    // They add up in another way: the recipes are cut elsewhere.
+    assert_eq!(checked_in(&recipes, &list(&[216, 0, 0]), 24).0, 0);
+    assert_eq!(outcomes(&[recipes[..71].to_vec(), recipes[71..144].to_vec(), table(&A)]), [(11, 0), (11, 0), (0, 0)]);
+}
+
+#[test]
+fn a_sum_does_not_wrap_and_no_length_is_below_0() {
+    let one = table(&[(1, 0, 0, 0)]);
+    for lengths in [vec![u32::MAX, 9], vec![9, u32::MAX], vec![u32::MAX - 7, 8, 8], vec![16, u32::MAX - 7]] {
+        is_no_batch(&one, &list(&lengths), 8 * lengths.len());
+    }
+    for (length, count) in [(1 << 31, 2), (1 << 30, 4), (1 << 26, 64), (u32::MAX, 1), (u32::MAX, 64)] {
+        is_no_batch(&[], &list(&vec![length; count]), 8 * count);
+    }
+    // The bytes of a length are not turned round, and all four count.
+    for length in [0x0800_0000, 0x0100_0008, 0x0001_0008, 0x0000_0108] {
+        is_no_batch(&one, &list(&[length]), 8);
+    }
+}
+
+#[test]
+fn spaces_of_other_lengths() {
+    for count in [0, 1, 3, 64] {
+        let (recipes, lengths) = (table(&A).repeat(count), list(&vec![72; count]));
+        let right = 8 * count;
+        for space in (0..=right + 9).chain([2 * right + 16, 1_040]).filter(|space| *space != right) {
+            is_no_batch(&recipes, &lengths, space);
+        }
+        assert_eq!(checked_in(&recipes, &lengths, right), (0, vec![0; right]));
+    }
+}
+
+#[test]
+fn a_bad_batch_is_told_before_its_recipes_are_looked_at() {
+    for (faulty, _) in faulty().into_iter().chain([(vec![1; 9], (11, 0))]) {
+        let length = faulty.len() as u32;
+        for (lengths, space) in [(list(&[length + 1]), 8), (list(&[length]), 7), (vec![], 0), (list(&[length, 1]), 16)]
+        {
+            is_no_batch(&faulty, &lengths, space);
+        }
+        is_no_batch(&faulty.repeat(65), &list(&[length; 65]), 520);
     }
 }

@@ -10,7 +10,7 @@ use crate::words::quoted;
 #[derive(Clone, Copy, Debug)]
 pub struct Options {
     pub command: &'static str,
-    /// What the help text calls the files, in their order.
+    /// What the help text calls the files, in their order; a last one with "..." behind it stands for any number.
     pub files: &'static [&'static str],
     /// Options with a value behind them.
     pub valued: &'static [&'static str],
@@ -36,7 +36,7 @@ impl Options {
                 Some(text) if options && text.len() > 1 && text.starts_with('-') => {
                     self.option(&mut given, text, &mut arguments)?;
                 }
-                _ if given.files.len() == self.files.len() => {
+                _ if given.files.len() == self.files.len() && !self.takes_more() => {
                     let (name, taken) = (quoted(&argument.to_string_lossy()), self.files.join(" and "));
                     return Err(self.wrong(format!("{name} is one file too many after {taken}")));
                 }
@@ -44,6 +44,10 @@ impl Options {
             }
         }
         Ok(given)
+    }
+
+    fn takes_more(&self) -> bool {
+        self.files.last().is_some_and(|name| name.ends_with("..."))
     }
 
     fn option<'i>(
@@ -100,6 +104,18 @@ impl Options {
         }
     }
 
+    /// The files to read, in their order: none for standard input, which stands alone where no file is given.
+    pub fn inputs(&self, given: &Given) -> Result<Vec<Option<PathBuf>>, Failure> {
+        if given.files.is_empty() {
+            return Ok(vec![None]);
+        }
+        let inputs: Vec<_> = given.files.iter().map(named).collect();
+        if inputs.iter().filter(|input| input.is_none()).count() > 1 {
+            return Err(self.wrong("standard input is given twice, and can be read once".to_string()));
+        }
+        Ok(inputs)
+    }
+
     /// The name of a file that cannot be left out or be standard input, the one at `index` of those taken.
     pub fn due<'g>(&self, given: &'g Given, index: usize) -> Result<&'g Path, Failure> {
         let file = given.files.get(index).filter(|file| !names_none(file)).map(Path::new);
@@ -115,6 +131,11 @@ fn names_none(file: &OsStr) -> bool {
     file == "-" || file.is_empty()
 }
 
+/// The file that a name stands for, none for a standard stream.
+fn named(file: impl AsRef<OsStr>) -> Option<PathBuf> {
+    Some(file.as_ref()).filter(|file| *file != "-").map(PathBuf::from)
+}
+
 impl Given {
     fn value(&self, option: &str) -> Option<&OsStr> {
         self.values.iter().find(|(name, _)| *name == option).map(|(_, value)| value.as_os_str())
@@ -126,12 +147,12 @@ impl Given {
 
     /// The file to read, none for standard input.
     pub fn input(&self) -> Option<PathBuf> {
-        self.files.first().filter(|file| *file != "-").map(PathBuf::from)
+        self.files.first().and_then(named)
     }
 
     /// The file to write, none for standard output.
     pub fn output(&self) -> Option<PathBuf> {
-        self.value("-o").filter(|file| *file != "-").map(PathBuf::from)
+        self.value("-o").and_then(named)
     }
 }
 
@@ -142,6 +163,7 @@ mod tests {
     const OPTIONS: Options =
         Options { command: "run", files: &["FILE"], valued: &["--budget", "-o"], flags: &["--quiet"] };
     const TWO: Options = Options { command: "why", files: &["TABLE", "STATE"], valued: &[], flags: &[] };
+    const MANY: Options = Options { command: "check", files: &["FILE..."], valued: &[], flags: &[] };
 
     fn given(options: Options, arguments: &[&str]) -> Result<Given, Failure> {
         options.read(&arguments.iter().map(OsString::from).collect::<Vec<_>>())
@@ -177,6 +199,18 @@ mod tests {
             let wrong = given(TWO, arguments).and_then(|given| TWO.due(&given, 1).map(PathBuf::from)).unwrap_err();
             assert_eq!((wrong.status, wrong.message.starts_with(told)), (2, true), "{}", wrong.message);
         }
+    }
+
+    #[test]
+    fn any_number_of_files_is_read_where_they_are_taken() {
+        let inputs = |arguments: &[&str]| MANY.inputs(&given(MANY, arguments).unwrap());
+        let file = |name| Some(PathBuf::from(name));
+        assert_eq!(inputs(&[]), Ok(vec![None]));
+        assert_eq!(inputs(&["b", "-", "a", "b"]), Ok(vec![file("b"), None, file("a"), file("b")]));
+        assert_eq!(inputs(&["f"; 1_000]), Ok(vec![file("f"); 1_000]));
+        assert_eq!(inputs(&["--", "--help", "-x"]), Ok(vec![file("--help"), file("-x")]));
+        let twice = inputs(&["-", "f", "-"]).unwrap_err();
+        assert_eq!((twice.status, twice.message.contains("given twice")), (2, true), "{}", twice.message);
     }
 
     #[test]

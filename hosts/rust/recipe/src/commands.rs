@@ -11,10 +11,10 @@ use crate::course::Course;
 use crate::failure::{Failure, UNFINISHED};
 use crate::files::{self, Loaded, Source};
 use crate::picture::{self, Heading};
-use crate::table::{decode, depths, describe, describe_lacking, kind};
+use crate::table::describe_lacking;
 use crate::timeline::Timeline;
-use crate::words::{counted, quoted};
-use crate::{asm, help, listing, raw, why};
+use crate::words::quoted;
+use crate::{asm, check, help, listing, raw, why};
 
 /// The budget of a run, unless given.
 const BUDGET: u32 = 10_000;
@@ -26,7 +26,7 @@ const LONGEST_TIMELINE: u32 = 1 << 16;
 
 const ASM: Options = Options { command: "asm", files: &["FILE"], valued: &["-o"], flags: &[] };
 const DIS: Options = Options { command: "dis", files: &["FILE"], valued: &[], flags: &["--raw"] };
-const CHECK: Options = Options { command: "check", files: &["FILE"], valued: &[], flags: &[] };
+const CHECK: Options = Options { command: "check", files: &["FILE..."], valued: &[], flags: &[] };
 const RUN: Options = Options {
     command: "run",
     files: &["FILE"],
@@ -96,22 +96,23 @@ fn dis(given: &Given) -> Result<u8, Failure> {
     }
     match listed {
         Ok(_) => Ok(0),
-        Err(refusal) => Err(refused(&name, &table, refusal)),
+        Err(refusal) => Err(Failure::refused(&name, &table, refusal)),
     }
 }
 
 fn check(given: &Given) -> Result<u8, Failure> {
-    let Loaded { name, table, .. } = files::load(given.input().as_deref())?;
-    State::start(&table).map_err(|refusal| refused(&name, &table, refusal))?;
-    let records = decode(&table);
-    let procedures = records.iter().filter(|record| record.kind == kind::PROCEDURE).count();
-    let depth = depths(&records).into_iter().max().unwrap_or_default();
-    let counts = [counted(records.len(), "record"), counted(procedures, "procedure"), format!("depth {depth}")];
-    print(&format!("{name}: accepted: {}\n", counts.join(", ")))
-}
-
-fn refused(name: &str, table: &[u8], refusal: Refusal) -> Failure {
-    Failure::fault(format!("{name}: {}", describe(table, refusal)))
+    let inputs = CHECK.inputs(given)?;
+    let mut status = 0;
+    for verdict in check::verdicts(&inputs) {
+        // What is wrong with a recipe is what was asked for, and no message beside it.
+        let line = verdict.unwrap_or_else(|failure| {
+            status = status.max(failure.status);
+            let place = if inputs.len() == 1 { &failure.excerpt } else { "" };
+            failure.message + place
+        });
+        print(&format!("{line}\n"))?;
+    }
+    Ok(status)
 }
 
 fn keep_input(options: &Options, input: Option<&Path>, output: Option<&Path>) -> Result<(), Failure> {
@@ -155,7 +156,7 @@ fn run(given: &Given) -> Result<u8, Failure> {
 /// Prints a refusal as the library gives it; the failure has it in words.
 fn printed_refusal(Loaded { name, table, .. }: &Loaded, refusal: Refusal) -> Failure {
     match show([].into_iter(), &refusal.to_string()) {
-        Ok(()) => refused(name, table, refusal),
+        Ok(()) => Failure::refused(name, table, refusal),
         Err(error) => files::printed(&error),
     }
 }
@@ -240,7 +241,7 @@ fn timeline(given: &Given) -> Result<u8, Failure> {
     let (input, output) = (given.input(), given.output());
     keep_input(&TIMELINE, input.as_deref(), output.as_deref())?;
     let Loaded { name, table, .. } = files::load(input.as_deref())?;
-    let course = Course::of(&table, budget, &mut log).map_err(|refusal| refused(&name, &table, refusal))?;
+    let course = Course::of(&table, budget, &mut log).map_err(|refusal| Failure::refused(&name, &table, refusal))?;
     let title = input.as_deref().and_then(Path::file_name).map_or(name, |base| base.to_string_lossy().into_owned());
     let heading = Heading { name: &title, ending: course.ending, steps: course.steps, budget };
     files::write(output.as_deref(), picture::draw(&Timeline::of(&course), &heading).as_bytes())?;

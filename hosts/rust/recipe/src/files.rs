@@ -53,7 +53,7 @@ pub fn assemble(file: Option<&Path>) -> Result<Loaded, Failure> {
     let text = asm::text(&bytes);
     let shown_text = text.as_ref().copied().unwrap_or_default();
     let records = text.clone().and_then(asm::placed);
-    let records = records.map_err(|fault| Failure::fault(fault.show(&shown(file), shown_text)))?;
+    let records = records.map_err(|fault| Failure::fault(&shown(file), shown_text, &fault))?;
     let source = Source { text: shown_text.to_string(), records };
     Ok(Loaded { name: shown(file), table: encode(&source.records), source: Some(source) })
 }
@@ -81,7 +81,7 @@ pub fn write(file: Option<&Path>, bytes: &[u8]) -> Result<(), Failure> {
 /// The failure of a write to standard output. A reader that went away needs no message.
 pub fn printed(error: &io::Error) -> Failure {
     match error.kind() {
-        ErrorKind::BrokenPipe => Failure { status: USAGE, message: String::new() },
+        ErrorKind::BrokenPipe => Failure::new(USAGE, ""),
         _ => Failure::io("standard output", error),
     }
 }

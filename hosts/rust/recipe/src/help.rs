@@ -16,19 +16,19 @@ pub fn of(command: &str) -> Option<&'static str> {
 pub const TOOL: &str = "\
 recipe: assembles, lists, checks, runs and draws recipes of the press controller
 
-usage: recipe SUBCOMMAND [FILE] [OPTIONS]
+usage: recipe SUBCOMMAND [FILE...] [OPTIONS]
 
   asm       text to a table
   dis       a table to text
-  check     whether a table is accepted, with its counts or its fault
+  check     whether tables are accepted, with their counts or their faults
   run       runs a recipe and prints its log and ending
   why       who waits for whom in the saved state of a run that is stuck
   timeline  draws a run as an SVG picture
 
 FILE may be left out or \"-\" for standard input. A name that ends in \".recipe\"
 is text and is assembled first; any other file, and standard input, is a table
-(for asm always text). why takes two files, a TABLE and a STATE.
-\"recipe SUBCOMMAND --help\" tells more.
+(for asm always text). check takes any number of files, why takes two, a TABLE
+and a STATE. \"recipe SUBCOMMAND --help\" tells more.
 
 exit status: 0 all went well
              1 the input is refused or at fault
@@ -94,11 +94,16 @@ the same table, byte for byte. Of a refused table only the fault is told.
 ";
 
 const CHECK: &str = "\
-usage: recipe check [FILE]
+usage: recipe check [FILE...]
 
 Tells whether a table is accepted, with its records, procedures and depth, or
 the fault and the record that has it (exit status 1). Text whose name ends in
 \".recipe\" is assembled first.
+
+Several files are each checked and told in a line of standard output, in their
+order. The exit status is the highest among them: 0 accepted, 1 refused or at
+fault, 2 cannot be read. Of a text at fault that is the only file, its line is
+shown as well.
 ";
 
 const RUN: &str = "\

@@ -6,6 +6,7 @@
 pub mod args;
 pub mod asm;
 pub mod block;
+pub mod check;
 pub mod commands;
 pub mod course;
 pub mod expression;

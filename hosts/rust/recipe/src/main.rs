@@ -12,7 +12,7 @@ fn main() -> ExitCode {
         Err(failure) => {
             if !failure.message.is_empty() {
                 // Nothing is left to do where standard error is closed.
-                let _ = writeln!(io::stderr(), "{}", failure.message);
+                let _ = writeln!(io::stderr(), "{}{}", failure.message, failure.excerpt);
             }
             ExitCode::from(failure.status)
         }

@@ -28,14 +28,24 @@ impl Fault {
 
     /// The fault with the file's name, the line itself and a mark under the column.
     pub fn show(&self, file: &str, text: &str) -> String {
+        self.head(file) + &self.excerpt(text)
+    }
+
+    /// The fault with the file's name.
+    pub fn head(&self, file: &str) -> String {
         let Position { line, column } = self.at;
-        let head = format!("{file}:{line}:{column}: {}", self.sentence);
+        format!("{file}:{line}:{column}: {}", self.sentence)
+    }
+
+    /// The line at fault and a mark under the column, to go below the head; nothing where the line cannot be shown.
+    pub fn excerpt(&self, text: &str) -> String {
+        let Position { line, column } = self.at;
         match text.lines().nth(line.saturating_sub(1)) {
             Some(row) if !row.trim().is_empty() && row.chars().count() <= SHOWN => {
                 let shown: String = row.chars().map(|c| if c.is_control() { ' ' } else { c }).collect();
-                format!("{head}\n  {}\n  {}^", shown.trim_end(), " ".repeat(column.saturating_sub(1)))
+                format!("\n  {}\n  {}^", shown.trim_end(), " ".repeat(column.saturating_sub(1)))
             }
-            _ => head,
+            _ => String::new(),
         }
     }
 }

@@ -5,7 +5,7 @@ mod common;
 use std::fs;
 use std::path::Path;
 
-use common::{directory, recipe, row_a, status, stderr, stdout};
+use common::{directory, recipe, row_a, status, stderr, stdout, BAD, REFUSED, TEXT_A};
 
 const A: &str = "\
 spawned 1 0 2
@@ -18,14 +18,10 @@ valve 1 0 1
 ended 1 0 0
 finished 8
 ";
-const ROW_A: &str = "procedure main\n  spawn x press 5\n  await x\n  set valve0 1\nprocedure press p\n  set valve1 p\n";
 const STUCK: &str = "procedure main\n  await x\n";
 const AT_GUARD: &str = "procedure main\n  guard x\n";
 /// Divides by a variable that is 0, in the second statement, at record 3.
 const SHARE: &str = "procedure main\n  set valve1 1\n  set valve0 6 / sensors\n";
-const BAD: &str = "procedure main\n  spawn x press 5\n";
-/// A table with a set that encloses nothing.
-const REFUSED: [u8; 16] = [1, 0, 1, 0, 0, 0, 0, 0, 3, 8, 0, 0, 0, 0, 0, 0];
 
 /// The names of a directory's files.
 fn files(directory: &Path) -> Vec<String> {
@@ -38,7 +34,7 @@ fn files(directory: &Path) -> Vec<String> {
 #[test]
 fn recipe_a_prints_as_in_the_document() {
     let d = directory("recipe_a");
-    fs::write(d.join("a.recipe"), ROW_A).unwrap();
+    fs::write(d.join("a.recipe"), TEXT_A).unwrap();
     let assembled = recipe(&d, &["asm", "a.recipe", "-o", "a.table"], b"");
     assert_eq!((status(&assembled), assembled.stdout.len(), assembled.stderr.len()), (0, 0, 0));
     assert_eq!(fs::read(d.join("a.table")).unwrap(), row_a());
@@ -139,9 +135,9 @@ fn a_zero_divisor_holds_a_saved_state_until_its_variable_is_written() {
 #[test]
 fn standard_streams_are_the_default() {
     let d = directory("streams");
-    let assembled = recipe(&d, &["asm"], ROW_A.as_bytes());
+    let assembled = recipe(&d, &["asm"], TEXT_A.as_bytes());
     assert_eq!(assembled.stdout, row_a());
-    assert_eq!(recipe(&d, &["asm", "-", "-o", "-"], ROW_A.as_bytes()).stdout, row_a());
+    assert_eq!(recipe(&d, &["asm", "-", "-o", "-"], TEXT_A.as_bytes()).stdout, row_a());
     let listed = recipe(&d, &["dis"], &assembled.stdout);
     assert_eq!(recipe(&d, &["asm"], &listed.stdout).stdout, row_a());
     let raw = recipe(&d, &["dis", "--raw"], &assembled.stdout);
@@ -159,8 +155,7 @@ fn refused_tables_are_told() {
     fs::write(d.join("t"), REFUSED).unwrap();
     let told = "t: refused 13 1: record 1, 3(8,0,0) (set): the span does not fit\n";
     for (arguments, printed) in [
-        (&["check", "t"][..], ""),
-        (&["run", "t"], "refused 13 1\n"),
+        (&["run", "t"][..], "refused 13 1\n"),
         (&["dis", "t"], ""),
         (&["dis", "t", "--raw"], "1(0,1,0)\n    3(8,0,0)    # fault 13: the span does not fit\n"),
         (&["why", "t", "t"], "refused 13 1\n"),
@@ -206,7 +201,7 @@ fn nothing_is_written_when_refused() {
 #[test]
 fn outputs_replace_old_files_whole() {
     let d = directory("replace");
-    fs::write(d.join("a.recipe"), ROW_A).unwrap();
+    fs::write(d.join("a.recipe"), TEXT_A).unwrap();
     fs::write(d.join("out"), vec![7; 5_000]).unwrap();
     assert_eq!(status(&recipe(&d, &["asm", "a.recipe", "-o", "out"], b"")), 0);
     assert_eq!(fs::read(d.join("out")).unwrap(), row_a());
@@ -214,7 +209,7 @@ fn outputs_replace_old_files_whole() {
     assert!(fs::read_to_string(d.join("out")).unwrap().ends_with("</svg>\n"));
     // Its own input is kept.
     assert_eq!(status(&recipe(&d, &["asm", "a.recipe", "-o", "./a.recipe"], b"")), 2);
-    assert_eq!(fs::read_to_string(d.join("a.recipe")).unwrap(), ROW_A);
+    assert_eq!(fs::read_to_string(d.join("a.recipe")).unwrap(), TEXT_A);
     assert_eq!(status(&recipe(&d, &["asm", "a.recipe", "-o", "no/where"], b"")), 2);
     assert_eq!(files(&d), ["a.recipe", "out"]);
 }
@@ -225,7 +220,7 @@ fn a_link_stays_a_link() {
     let d = directory("link");
     fs::write(d.join("real"), "old").unwrap();
     std::os::unix::fs::symlink("real", d.join("link")).unwrap();
-    assert_eq!(status(&recipe(&d, &["asm", "-o", "link"], ROW_A.as_bytes())), 0);
+    assert_eq!(status(&recipe(&d, &["asm", "-o", "link"], TEXT_A.as_bytes())), 0);
     assert!(fs::symlink_metadata(d.join("link")).unwrap().is_symlink());
     assert_eq!(fs::read(d.join("real")).unwrap(), row_a());
 }
@@ -233,7 +228,7 @@ fn a_link_stays_a_link() {
 #[test]
 fn exit_statuses() {
     let d = directory("statuses");
-    fs::write(d.join("a.recipe"), ROW_A).unwrap();
+    fs::write(d.join("a.recipe"), TEXT_A).unwrap();
     fs::write(d.join("stuck.recipe"), STUCK).unwrap();
     for (due, arguments) in [
         (0, &["run", "a.recipe"][..]),

@@ -1,8 +1,8 @@
 //! A safe wrapper of the recipe runner.
 //!
 //! A recipe is a table of 8-byte records. [`State::start`] checks it and gives a fresh state; [`State::run`] makes steps
-//! from there and writes a log; [`State::why_stuck`] tells who waits for whom where a run is stuck. Nothing here panics,
-//! and a refused call changes neither state nor log.
+//! from there and writes a log; [`State::why_stuck`] tells who waits for whom where a run is stuck. [`check`] checks many
+//! recipes in one call. Nothing here panics, and a refused call changes neither state nor log.
 
 use std::fmt;
 
@@ -12,6 +12,12 @@ pub const RECORD: usize = 8;
 pub const STATE: usize = 520;
 /// The most bytes of a table.
 pub const TABLE: usize = 32_768;
+/// The most recipes of a batch.
+pub const BATCH: usize = 64;
+/// The bytes of a recipe's length in a batch's list.
+pub const LENGTH: usize = 4;
+/// The bytes of a recipe's outcome: the number and the place that `start` gives for it.
+pub const OUTCOME: usize = 8;
 /// The bytes of a chain: two for each of 32 live tasks, and two for the number that closes a circle.
 pub const CHAIN: usize = 66;
 
@@ -65,6 +71,14 @@ mod library {
             chain: *mut u8,
             chain_len: usize,
         ) -> Explained;
+        pub fn recipe_check_all(
+            recipes: *const u8,
+            recipes_len: usize,
+            lengths: *const u8,
+            lengths_len: usize,
+            outcomes: *mut u8,
+            outcomes_len: usize,
+        ) -> u32;
     }
 }
 
@@ -101,6 +115,21 @@ pub fn why_stuck(table: &[u8], state: &[u8], chain: &mut [u8]) -> Explained {
             state.len(),
             chain.as_mut_ptr(),
             chain.len(),
+        )
+    }
+}
+
+/// The library's `check_all`, on buffers of any content and length.
+pub fn check_all(recipes: &[u8], lengths: &[u8], outcomes: &mut [u8]) -> u32 {
+    // As in `start`.
+    unsafe {
+        library::recipe_check_all(
+            recipes.as_ptr(),
+            recipes.len(),
+            lengths.as_ptr(),
+            lengths.len(),
+            outcomes.as_mut_ptr(),
+            outcomes.len(),
         )
     }
 }
@@ -178,6 +207,7 @@ impl Refusal {
             22 => "the state's record breaks a rule, or its place is none",
             23 => "there are more live tasks than numbers issued",
             25 => "the state is not stuck",
+            26 => "there are over 64 recipes, their lengths do not add up, or the list or the space has a wrong size",
             _ => "not a published number",
         }
     }
@@ -280,6 +310,26 @@ impl State {
             None => Err(Refusal { number: e.number, place: e.place }),
         }
     }
+}
+
+/// What [`State::start`] says of a recipe.
+pub type Outcome = Result<(), Refusal>;
+
+/// Checks recipes in one call, [`BATCH`] at most; 26 where there are more.
+pub fn check(recipes: &[&[u8]]) -> Result<Vec<Outcome>, Refusal> {
+    // No length that the list cannot say adds up to the buffer.
+    let lengths: Vec<_> = recipes.iter().map(|r| u32::try_from(r.len()).unwrap_or(u32::MAX).to_le_bytes()).collect();
+    let mut outcomes = vec![0; OUTCOME * recipes.len()];
+    match check_all(&recipes.concat(), &lengths.concat(), &mut outcomes) {
+        0 => Ok(outcomes.chunks_exact(OUTCOME).filter_map(outcome).collect()),
+        number => Err(Refusal { number, place: 0 }),
+    }
+}
+
+fn outcome(bytes: &[u8]) -> Option<Outcome> {
+    let [n0, n1, n2, n3, p0, p1, p2, p3] = bytes.try_into().ok()?;
+    let (number, place) = (u32::from_le_bytes([n0, n1, n2, n3]), u32::from_le_bytes([p0, p1, p2, p3]));
+    Some(if number == 0 { Ok(()) } else { Err(Refusal { number, place }) })
 }
 
 /// What a log record tells.
@@ -450,6 +500,18 @@ mod tests {
             assert_eq!(state.run(&table, 100, &mut [0; 64]).unwrap().ending, Ending::Stuck);
             assert_eq!(state.why_stuck(&table), Ok(chain));
         }
+    }
+
+    #[test]
+    fn recipes_are_checked_together() {
+        let (a, guard) = (A.concat(), GUARD.concat());
+        let recipes: [&[u8]; 5] = [&a, &[], &guard, &a[8..], &a];
+        let alone = |table: &&[u8]| State::start(table).map(|_| ());
+        assert_eq!(check(&recipes), Ok(recipes.iter().map(alone).collect()));
+        assert_eq!(check(&recipes).unwrap()[1], Err(Refusal { number: 11, place: 0 }));
+        assert_eq!(check(&[]), Ok(vec![]));
+        assert_eq!(check(&[&a[..]; BATCH]), Ok(vec![Ok(()); BATCH]));
+        assert_eq!(check(&[&a[..]; BATCH + 1]), Err(Refusal { number: 26, place: 0 }));
     }
 
     #[test]

@@ -1,4 +1,4 @@
-//! State blocks, logs and chains to begin with.
+//! State blocks, logs, chains and spaces for outcomes to begin with.
 
 /// The bytes of a block.
 pub const BLOCK: usize = 520;
@@ -48,7 +48,7 @@ pub fn old(length: usize) -> Vec<u8> {
     (0..8).cycle().take(length).collect()
 }
 
-/// A log or a chain of any old content, so that bytes that are kept are seen.
+/// A log, a chain or a space for outcomes of any old content, so that bytes that are kept are seen.
 pub fn log(length: usize) -> Vec<u8> {
     (0xb0..0xb8).cycle().take(length).collect()
 }

@@ -1,6 +1,6 @@
 //! A case: what is called on which buffers, its form in the stored input, and its line in the stored output.
 
-use recipe_model::{print, run, start, why_stuck};
+use recipe_model::{check_all, print, run, start, why_stuck};
 
 /// The calls of [`Case::RunOn`] end here even if the run does not.
 const MOST_CALLS: u32 = 100_000;
@@ -33,6 +33,12 @@ pub enum Case {
         block: Vec<u8>,
         chain: Vec<u8>,
     },
+    /// The recipes of a batch one after the other, the list of their lengths, and the space for their outcomes.
+    CheckAll {
+        recipes: Vec<u8>,
+        lengths: Vec<u8>,
+        outcomes: Vec<u8>,
+    },
 }
 
 /// What a case gives: the numbers returned, and each buffer that is written. A print gives its text and the text's
@@ -44,15 +50,21 @@ pub struct Outcome {
 }
 
 impl Case {
+    /// What is called, the budget, and the buffers in their order.
+    pub fn parts(&self) -> (u8, u32, Vec<&[u8]>) {
+        match self {
+            Case::Start { table, block } => (0, 0, vec![table, block]),
+            Case::Run { table, block, budget, log } => (1, *budget, vec![table, block, log]),
+            Case::RunOn { table, block, budget, log } => (2, *budget, vec![table, block, log]),
+            Case::Print { table } => (3, 0, vec![table]),
+            Case::WhyStuck { table, block, chain } => (4, 0, vec![table, block, chain]),
+            Case::CheckAll { recipes, lengths, outcomes } => (5, 0, vec![recipes, lengths, outcomes]),
+        }
+    }
+
     /// The case in the stored input: a head (byte 0: what is called; bytes 4–7: the budget) and the buffers.
     pub fn write(&self, out: &mut Vec<u8>) {
-        let (what, budget, buffers): (u8, u32, &[&[u8]]) = match self {
-            Case::Start { table, block } => (0, 0, &[table, block]),
-            Case::Run { table, block, budget, log } => (1, *budget, &[table, block, log]),
-            Case::RunOn { table, block, budget, log } => (2, *budget, &[table, block, log]),
-            Case::Print { table } => (3, 0, &[table]),
-            Case::WhyStuck { table, block, chain } => (4, 0, &[table, block, chain]),
-        };
+        let (what, budget, buffers) = self.parts();
         out.extend([what, 0, 0, 0]);
         out.extend(budget.to_le_bytes());
         for buffer in buffers {
@@ -60,13 +72,15 @@ impl Case {
         }
     }
 
-    pub fn table(&self) -> &[u8] {
+    /// The table of a call on one recipe.
+    pub fn table(&self) -> Option<&[u8]> {
         match self {
             Case::Start { table, .. }
             | Case::Run { table, .. }
             | Case::RunOn { table, .. }
             | Case::Print { table }
-            | Case::WhyStuck { table, .. } => table,
+            | Case::WhyStuck { table, .. } => Some(table),
+            Case::CheckAll { .. } => None,
         }
     }
 
@@ -93,6 +107,11 @@ impl Case {
                 let mut chain = chain.clone();
                 let got = why_stuck(table, block, &mut chain);
                 Outcome { numbers: vec![got.number, got.count, got.end, got.place], buffers: vec![chain] }
+            }
+            Case::CheckAll { recipes, lengths, outcomes } => {
+                let mut outcomes = outcomes.clone();
+                let number = check_all(recipes, lengths, &mut outcomes);
+                Outcome { numbers: vec![number], buffers: vec![outcomes] }
             }
         }
     }

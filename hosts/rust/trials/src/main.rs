@@ -50,7 +50,8 @@ fn make() -> Outcome<()> {
     let lists = count(|case| matches!(case, Case::RunOn { .. }));
     let prints = count(|case| matches!(case, Case::Print { .. }));
     let chains = count(|case| matches!(case, Case::WhyStuck { .. }));
-    println!("{} cases: {starts} starts, {runs} runs, {lists} lists of runs,", cases.len());
-    println!("{prints} prints, {chains} questions why a state is stuck; {} bytes of input", input.len());
+    let batches = count(|case| matches!(case, Case::CheckAll { .. }));
+    println!("{} cases: {starts} starts, {runs} runs, {lists} lists of runs, {prints} prints,", cases.len());
+    println!("{chains} questions why a state is stuck, {batches} batches; {} bytes of input", input.len());
     Ok(())
 }

@@ -1,5 +1,7 @@
 //! The cases in their order.
 
+mod batches;
+
 mod blocks;
 
 mod chains;
@@ -56,6 +58,10 @@ impl Suite {
         self.add(Case::WhyStuck { table: table.to_vec(), block, chain });
     }
 
+    fn check_all(&mut self, recipes: &[u8], lengths: &[u8], outcomes: Vec<u8>) {
+        self.add(Case::CheckAll { recipes: recipes.to_vec(), lengths: lengths.to_vec(), outcomes });
+    }
+
     fn print(&mut self, rows: &[Row]) {
         self.add(Case::Print { table: table(rows) });
     }
@@ -95,14 +101,16 @@ pub fn suite(vectors: &[Vector]) -> Vec<Case> {
     waits::sweep(&mut suite);
     divisors::sweep(&mut suite);
     chains::sweep(&mut suite);
+    batches::sweep(&mut suite);
     prints::sweep(&mut suite, vectors);
     suite.cases
 }
 
-/// A start on every table of the published cases, then the published cases but for the prints as they are.
+/// A start on every table of the published cases, then the published cases but for the prints as they are. A batch's
+/// recipes are checked by its own case.
 fn published(suite: &mut Suite, vectors: &[Vector]) {
-    for vector in vectors {
-        suite.start(vector.case.table(), old(BLOCK));
+    for table in vectors.iter().filter_map(|vector| vector.case.table()) {
+        suite.start(table, old(BLOCK));
     }
     for vector in vectors {
         if !matches!(vector.case, Case::Print { .. }) {

@@ -1,9 +1,9 @@
 //! Published cases of another model of the same document, as `cases.txt` holds them.
 //!
 //! A line is `start table block number place block`, `run table block budget log number steps records place block
-//! records`, `explain table block chain number count end place numbers` or `print table text`. Bytes are in hex, `-` for
-//! none; `hh*n.` stands for n bytes hh, and `=` for "as before". The text goes to the line's end, with `|` for the end of
-//! each of its lines.
+//! records`, `explain table block chain number count end place numbers`, `shelf recipes lengths space number space` or
+//! `print table text`. Bytes are in hex, `-` for none; `hh*n.` stands for n bytes hh, and `=` for "as before". The text
+//! goes to the line's end, with `|` for the end of each of its lines. A shelf is a batch of recipes.
 
 use crate::case::{Case, Outcome};
 use crate::json::Json;
@@ -41,7 +41,7 @@ pub fn take_over(text: &str) -> Result<(Vec<Vector>, BTreeMap<String, usize>), S
     Ok((vectors, left))
 }
 
-/// One published case, if it is a start, a print, or a run or an explanation without registers.
+/// One published case, if it is a start, a print, a shelf, or a run or an explanation without registers.
 fn published(json: &Json) -> Result<Option<Vector>, String> {
     let want = json.field("want")?;
     let numbers = |names: &[&str]| names.iter().map(|name| want.number(name)).collect::<Result<Vec<_>, _>>();
@@ -66,6 +66,11 @@ fn published(json: &Json) -> Result<Option<Vector>, String> {
             bytes_are_kept(&chain, &written, 2 * numbers[1] as usize)?;
             let want = Outcome { numbers, buffers: vec![written] };
             Vector { case: Case::WhyStuck { table, block, chain }, want }
+        }
+        "shelf" => {
+            let (recipes, lengths, outcomes) = (json.bytes("buffer")?, json.bytes("lengths")?, json.bytes("space")?);
+            let want = Outcome { numbers: numbers(&["number"])?, buffers: vec![want.bytes("space")?] };
+            Vector { case: Case::CheckAll { recipes, lengths, outcomes }, want }
         }
         "print" => print_vector(json.bytes("table")?, want.text("text")?.to_string()),
         _ => return Ok(None),
@@ -110,13 +115,18 @@ fn read_line(line: &str) -> Result<Vector, String> {
             let want = Outcome { numbers: numbers(&[number, count, end, place])?, buffers: vec![after] };
             Ok(Vector { case: Case::WhyStuck { table, block, chain }, want })
         }
+        ["shelf", recipes, lengths, outcomes, number, after] => {
+            let (recipes, lengths, outcomes) = (bytes(recipes)?, bytes(lengths)?, bytes(outcomes)?);
+            let want = Outcome { numbers: numbers(&[number])?, buffers: vec![bytes_after(after, &outcomes)?] };
+            Ok(Vector { case: Case::CheckAll { recipes, lengths, outcomes }, want })
+        }
         _ => Err("not a case".to_string()),
     }
 }
 
 fn write_line(Vector { case, want }: &Vector) -> String {
     let numbers = want.numbers.iter().map(u32::to_string).collect::<Vec<_>>().join(" ");
-    let after = |block| if want.buffers.first() == Some(block) { "=".to_string() } else { field(&want.buffers[0]) };
+    let after = |before| if want.buffers.first() == Some(before) { "=".to_string() } else { field(&want.buffers[0]) };
     match case {
         Case::Start { table, block } => format!("start {} {} {numbers} {}", field(table), field(block), after(block)),
         Case::Run { table, block, budget, log } => {
@@ -128,6 +138,10 @@ fn write_line(Vector { case, want }: &Vector) -> String {
             let written = &want.buffers[0][..2 * want.numbers[1] as usize];
             let given = format!("{} {} {}", field(table), field(block), field(chain));
             format!("explain {given} {numbers} {}", field(written))
+        }
+        Case::CheckAll { recipes, lengths, outcomes } => {
+            let given = format!("{} {} {}", field(recipes), field(lengths), field(outcomes));
+            format!("shelf {given} {numbers} {}", after(outcomes))
         }
         Case::Print { table } => {
             format!("print {} {}", field(table), String::from_utf8_lossy(&want.buffers[0]).replace('\n', "|"))
@@ -168,7 +182,7 @@ fn field(bytes: &[u8]) -> String {
     out
 }
 
-/// The block that must come out.
+/// The block or the space that must come out.
 fn bytes_after(field: &str, before: &[u8]) -> Result<Vec<u8>, String> {
     if field == "=" {
         return Ok(before.to_vec());

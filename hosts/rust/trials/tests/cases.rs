@@ -33,7 +33,9 @@ fn published_files_are_taken_over() {
         r#"{"op":"run","regs":"00","table":"","block":"","budget":7,"log":"","want":{}}"#,
         r#"{"op":"explain","table":"","block":"01","out":"aabbcc","want":{"number":0,"count":1,"end":2,"place":0,"out":"0100cc"}}"#,
         r#"{"op":"explain","regs":"00","table":"","block":"","out":"","want":{}}"#,
-        r#"{"op":"shelf", "count":-1, "want":{}}"#,
+        r#"{"op":"next", "count":-1, "want":{}}"#,
+        r#"{"op":"shelf","level":5,"buffer":"010203","lengths":"03000000","space":"aaaaaaaaaaaaaaaa","want":{"number":0,"space":"0b00000000000000"}}"#,
+        r#"{"op":"shelf","level":5,"buffer":"","lengths":"","space":"aa","want":{"number":26,"space":"aa"}}"#,
         r#"{"op":"print","table":"0100000000000000","want":{"text":"ended 1 0 0\nfinished 1\n"}}"#,
     ];
     let (vectors, left) = take_over(&lines.join("\n")).expect("published cases");
@@ -41,14 +43,17 @@ fn published_files_are_taken_over() {
         "start 0100*7. 0000 21 0 =",
         "run - 01 7 aabb 11 0 0 0 = -",
         "explain - 01 aabbcc 0 1 2 0 0100",
+        "shelf 010203 0300*3. aa*8. 0 0b00*7.",
+        "shelf - - aa 26 =",
         "print 0100*7. ended 1 0 0|finished 1|",
     ];
     let text = text.join("\n") + "\n";
     assert_eq!(write(&vectors), text);
     assert_eq!(read(&text), Ok(vectors.clone()));
-    assert_eq!(left, BTreeMap::from(["explain", "run", "shelf"].map(|operation| (operation.to_string(), 1))));
+    assert_eq!(left, BTreeMap::from(["explain", "next", "run"].map(|operation| (operation.to_string(), 1))));
     assert_eq!(vectors[2].want.buffers, [[1, 0, 0xcc]]);
-    assert_eq!(vectors[3].case, Case::Print { table: vec![1, 0, 0, 0, 0, 0, 0, 0] });
+    assert_eq!(vectors[3].want.buffers, [[11, 0, 0, 0, 0, 0, 0, 0]]);
+    assert_eq!(vectors[5].case, Case::Print { table: vec![1, 0, 0, 0, 0, 0, 0, 0] });
 }
 
 #[test]

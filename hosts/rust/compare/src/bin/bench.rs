@@ -127,6 +127,7 @@ fn report(all: &[Workload], figures: &[[f64; 2]]) {
             Unit::Step => "a step",
             Unit::Call | Unit::Start | Unit::Why => "a call",
             Unit::Record => "a record",
+            Unit::Batch | Unit::Starts => "a recipe",
         };
         println!("{:<18} {:<9} {:>10.1} {:>10.1} {:>7.2}", workload.name, unit, library, model, ratio);
     }

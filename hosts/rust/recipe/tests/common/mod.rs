@@ -33,6 +33,14 @@ pub fn row_a() -> Vec<u8> {
     table(&ROW_A)
 }
 
+/// Its text.
+pub const TEXT_A: &str =
+    "procedure main\n  spawn x press 5\n  await x\n  set valve0 1\nprocedure press p\n  set valve1 p\n";
+/// A text that does not assemble.
+pub const BAD: &str = "procedure main\n  spawn x press 5\n";
+/// A table with a set that encloses nothing.
+pub const REFUSED: [u8; 16] = [1, 0, 1, 0, 0, 0, 0, 0, 3, 8, 0, 0, 0, 0, 0, 0];
+
 /// A xorshift generator.
 pub struct Random(pub u64);
 
