@@ -17,6 +17,7 @@ use Rattle.rules.specs.State.{Task, Store}
 use Rattle.rules.specs.Log.{Event, taken, gave, waits, ended}
 use Rattle.rules.specs.Scheduler.{Readiness, ready, waits-for, at-guard, isReady, noNumber, Rules, Stay, on, back, over, Halt, novalue, Act, does, is, count, isLive, readiness, canGo, anyGo, Next, finish, jam, bar, goes, tryOf, jamOr, stay, nextAct, next}
 use Rattle.rules.specs.Steps.{Limits, isDone, valveOf, waitAt, pastAt, needing, spawnAt}
+use Rattle.rules.proofs.Verdicts.{not-true}
 use Rattle.paper.specs.Paper.{Queue, task, PaperState, running, idle, env, memory, WhileStep, skip-step, assign-step, if-true, if-false, while-true, while-false, Any, here, there, InDom, Done, NotWaiting, Schedulable, simple, wait-over, guard-true, Rule, local, spawn-start, return, yield-suspend, yield-await, yield-guard, schedule-simple, schedule-await, schedule-guard, rotate-await, rotate-guard, Finished, finished, Stuck, stuck, needs, Lacking, lacking, Barred, limited, no-value}
 use Rattle.paper.specs.Follows.{statements}
 
@@ -85,10 +86,6 @@ pub simple-front : {s : Body} → Kind s → NotWaiting s → frontB s ≡ anoth
 simple-front (awaiting {x} {s}) h = absurd (h .0 x s refl)
 simple-front (guarded {g} {s}) h = absurd (h .1 g s refl)
 simple-front (going h g p) _ = h
-
-not-true : (b : Bool) → ¬ (b ≡ true) → b ≡ false
-not-true true h = absurd (h refl)
-not-true false h = refl
 
 -- the next statement has no expression to be worked out
 no-need : {e : Expr} → ¬ (none ≡ some e)

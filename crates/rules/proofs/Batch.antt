@@ -4,7 +4,7 @@ use Prim.Native.Nat.{ℕ, zero, suc, _+_, _*_, _/_, _%_, _≤_, _<_}
 use mathlib.Core.Path.{_≡_, refl, sym, ap, ap₂, _∙_, subst, subst⁻¹}
 use mathlib.Core.Logic.{⊎-elim}
 use mathlib.Core.Bool.{Bool, true, false, _&&_, _||_, false≢true}
-use mathlib.Core.List.{List, [], _∷_, _++_, map}
+use mathlib.Core.List.{List, [], _∷_, _++_, map, append-assoc, append-nil}
 use native.Mathlib.Omega.{arith}
 use native.Mathlib.Nat.{eq-or-lt-of-le}
 use lib.Dec.{eqb, leb}
@@ -13,14 +13,15 @@ use lib.Seq.{length-take-le, take-all, take-add, take-at, drop-append-add}
 use borrow.Author.Tests.{eq-eqb, eqb-true, le-leb, leb-true}
 use Rattle.rules.specs.Fields.{word, bytes4}
 use Rattle.rules.specs.Table.{Verdict, fine, fault, _else_, check}
-use Rattle.rules.specs.State.{joined}
+use Rattle.rules.specs.State.{tab, joined}
 use Rattle.rules.specs.Run.{startWith, startOn}
 use Rattle.rules.specs.Answers.{ofTable}
+use Rattle.rules.specs.Demand.{Bytes}
 use Rattle.rules.specs.Batch.{count, lengthAt, total, recipeAt, outcomeBytes, outcomesOf, isBatch, checked, checkAllOn, IsBatch, Tells, concat, lengthBytes, Delivered, BatchSays}
-use Rattle.rules.proofs.Verdicts.{and-true}
+use Rattle.rules.proofs.Verdicts.{and-true, not-true}
 use Rattle.rules.proofs.Answers.{Numbers, check-number}
-use Rattle.rules.proofs.Lists.{joined-length, joined-same, joined-add, joined-part}
-use Rattle.rules.proofs.Numbers.{word-within, word-bytes4}
+use Rattle.rules.proofs.Lists.{length-tab, joined-length, joined-same, joined-add, joined-part, parts-joined}
+use Rattle.rules.proofs.Numbers.{word-within, word-bytes4, bytes4-word}
 
 -- ---- the outcome of one recipe
 
@@ -107,11 +108,7 @@ module _ (n : ℕ) (l : List ℕ) (m : ℕ) where
       record { whole = eqb-true (length l % 4) 0 (c .0); few = leb-true (count l) 64 (c .1); adds-up = eqb-true (total (count l) l) n (b .1); room = eqb-true m (8 * count l) (a .1) }
 
   pub no-batch : ¬ IsBatch n l m → isBatch n l m ≡ false
-  no-batch h = go (isBatch n l m) refl
-    where
-      go : (x : Bool) → isBatch n l m ≡ x → x ≡ false
-      go true e = absurd (h (batch-is e))
-      go false e = refl
+  no-batch h = not-true (isBatch n l m) (λ e. h (batch-is e))
 
   -- each recipe ends within the buffer
   pub ends-within : IsBatch n l m → (i : ℕ) → i < count l → total i l + lengthAt l i ≤ n
@@ -172,6 +169,26 @@ parts-of f (t ∷ ts) =
     joined-same (λ i. g (1 + i)) (λ i. f (recipeAt b l i)) (length ts) (λ i h. let e : 1 + i ≡ suc i = omega arith in ap g e ∙ ap f (recipe-later t b l i)) in
     ap (λ (k : ℕ). joined k g) n ∙ joined-add g 1 (length ts) ∙ ap₂ (λ (x y : List ℕ). x ++ y) (ap f (recipe-first t b l)) (later ∙ parts-of f ts)
 
+-- parts given by index, one after another
+concat-one : (xs : List (List ℕ)) (x : List ℕ) → concat (xs ++ x ∷ []) ≡ concat xs ++ x
+unfolding concat
+concat-one [] x = append-nil x
+concat-one (y ∷ xs) x = ap (λ (l : List ℕ). y ++ l) (concat-one xs x) ∙ sym (append-assoc y (concat xs) x)
+
+concat-tab : (f : ℕ → List ℕ) (n : ℕ) → concat (tab n f) ≡ joined n f
+unfolding tab joined concat
+concat-tab f zero = refl
+concat-tab f (suc n) = concat-one (tab n f) (f n) ∙ ap (λ (l : List ℕ). l ++ f n) (concat-tab f n)
+
+map-tab : (g : List ℕ → List ℕ) (f : ℕ → List ℕ) (n : ℕ) → map g (tab n f) ≡ tab n (λ i. g (f i))
+unfolding tab
+map-tab g f zero = refl
+map-tab g f (suc n) = one-more (tab n f) ∙ ap (λ (l : List (List ℕ)). l ++ g (f n) ∷ []) (map-tab g f n)
+  where
+    one-more : (xs : List (List ℕ)) → map g (xs ++ f n ∷ []) ≡ map g xs ++ g (f n) ∷ []
+    one-more [] = refl
+    one-more (y ∷ xs) = ap (λ (l : List (List ℕ)). g y ∷ l) (one-more xs)
+
 -- ---- what the call says
 
 module _ (b l : List ℕ) where
@@ -202,6 +219,31 @@ module _ (ts : List (List ℕ)) (b l o : List ℕ) (d : Delivered ts b l o) wher
   unfolding outcomesOf
   delivered-outcomes = rw (delivered-count, d .lengths, d .buffer) (parts-of outcomeBytes ts)
 
+module _ (b l o : List ℕ) (bytes : Bytes l) (h : IsBatch (length b) l (length o)) where
+  whole-buffer : joined (count l) (recipeAt b l) ≡ b
+  whole-buffer = recipes-joined b l (count l) ∙ ap (λ (n : ℕ). take n b) (h .adds-up) ∙ take-all (length b) b (omega arith)
+
+  sized : (i : ℕ) → i < count l → length (recipeAt b l i) ≡ lengthAt l i
+  sized i g = recipe-length b l i (ends-within (length b) l (length o) h i g)
+
+  -- the list is what these recipes' lengths spell
+  whole-list : joined (count l) (λ i. lengthBytes (recipeAt b l i)) ≡ l
+  whole-list =
+      let f : ℕ → List ℕ = λ i. lengthBytes (recipeAt b l i) in
+      let n : 0 + count l * 4 ≡ length l = omega (arith, h .whole) in
+      parts-joined 4 f 0 l (count l) (λ i g. let e : 4 * i ≡ 0 + i * 4 = omega arith in ap bytes4 (sized i g) ∙ bytes4-word l bytes (4 * i) (omega arith) ∙ ap (λ (k : ℕ). take 4 (drop k l)) e)
+      ∙ ap (λ (k : ℕ). take k l) n
+      ∙ take-all (length l) l (omega arith)
+
+  spelt : Delivered (tab (count l) (recipeAt b l)) b l o
+  spelt =
+      record {
+        buffer = sym (concat-tab (recipeAt b l) (count l) ∙ whole-buffer);
+        lengths = sym (ap concat (map-tab lengthBytes (recipeAt b l) (count l)) ∙ concat-tab (λ i. lengthBytes (recipeAt b l i)) (count l) ∙ whole-list);
+        few = omega (arith, length-tab (recipeAt b l) (count l), h .few);
+        room = h .room ∙ ap (λ (n : ℕ). 8 * n) (sym (length-tab (recipeAt b l) (count l)));
+      }
+
 module _ (b l o : List ℕ) where
   pub is-all : IsBatch (length b) l (length o) → checkAllOn b l o ≡ checked 0 (outcomesOf b l)
   unfolding checkAllOn
@@ -224,11 +266,12 @@ module _ (b l o : List ℕ) where
         each = λ e. absurd (omega arith);
         sized = λ e. absurd (omega arith);
         in-turn = λ e. absurd (omega arith);
+        spelt = λ e. absurd (omega arith);
         delivered = λ ts d. absurd (h (delivered-batch ts b l o d));
       }
 
-  says-all : IsBatch (length b) l (length o) → BatchSays b l o (checked 0 (outcomesOf b l))
-  says-all h =
+  says-all : Bytes l → IsBatch (length b) l (length o) → BatchSays b l o (checked 0 (outcomesOf b l))
+  says-all bytes h =
       record {
         listed = refl;
         accepted = (λ e. h, λ x. refl);
@@ -237,14 +280,15 @@ module _ (b l o : List ℕ) where
         not-looked-at = λ e. absurd (omega arith);
         same-length = outcomes-length b l ∙ sym (h .room);
         each = λ e i g. outcomes-tell b l i g;
-        sized = λ e i g. recipe-length b l i (ends-within (length b) l (length o) h i g);
-        in-turn = λ e. recipes-joined b l (count l) ∙ ap (λ (n : ℕ). take n b) (h .adds-up) ∙ take-all (length b) b (omega arith);
+        sized = λ e. sized b l o bytes h;
+        in-turn = λ e. whole-buffer b l o bytes h;
+        spelt = λ e. (tab (count l) (recipeAt b l), spelt b l o bytes h);
         delivered = λ ts d. ap (checked 0) (delivered-outcomes ts b l o d);
       }
 
-pub batch-says : (b l o : List ℕ) → BatchSays b l o (checkAllOn b l o)
-batch-says b l o = go (isBatch (length b) l (length o)) refl
+pub batch-says : (b l o : List ℕ) → Bytes l → BatchSays b l o (checkAllOn b l o)
+batch-says b l o bytes = go (isBatch (length b) l (length o)) refl
   where
     go : (x : Bool) → isBatch (length b) l (length o) ≡ x → BatchSays b l o (checkAllOn b l o)
-    go true e = let h = batch-is (length b) l (length o) e in subst⁻¹ (BatchSays b l o) (is-all b l o h) (says-all b l o h)
+    go true e = let h = batch-is (length b) l (length o) e in subst⁻¹ (BatchSays b l o) (is-all b l o h) (says-all b l o bytes h)
     go false e = let h : ¬ IsBatch (length b) l (length o) = λ x. false≢true (sym e ∙ is-batch (length b) l (length o) x) in subst⁻¹ (BatchSays b l o) (is-26 b l o h) (says-26 b l o h)

@@ -1,4 +1,4 @@
--- Tests that hold together, and verdicts that find no fault.
+-- Tests that hold together or do not hold, and verdicts that find no fault.
 -- Assumes nothing.
 use Prim.Native.Nat.{ℕ}
 use mathlib.Core.Path.{_≡_, refl, sym, _∙_}
@@ -14,6 +14,10 @@ or-left false b h e = absurd (true≢false (sym h ∙ e))
 pub and-true : (a b : Bool) → (a && b) ≡ true → (a ≡ true) × (b ≡ true)
 and-true true b h = (refl, h)
 and-true false b h = absurd (false≢true h)
+
+pub not-true : (b : Bool) → ¬ (b ≡ true) → b ≡ false
+not-true true h = absurd (h refl)
+not-true false h = refl
 
 pub else-fine : (v w : Verdict) → (v else w) ≡ fine → (v ≡ fine) × (w ≡ fine)
 else-fine fine w e = (refl, e)

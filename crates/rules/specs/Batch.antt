@@ -106,5 +106,6 @@ pub record BatchSays (b l o : List ℕ) (x : Checked) : Type 0 where
   -- the recipes have the lengths of the list, and one after another they are the buffer
   pub sized : x .number ≡ 0 → (i : ℕ) → i < count l → length (recipeAt b l i) ≡ lengthAt l i
   pub in-turn : x .number ≡ 0 → joined (count l) (recipeAt b l) ≡ b
-  -- whatever recipes were delivered, these are checked
+  -- it is accepted where some recipes were delivered so; and whatever recipes were, these are checked
+  pub spelt : x .number ≡ 0 → (ts : List (List ℕ)) × Delivered ts b l o
   pub delivered : (ts : List (List ℕ)) → Delivered ts b l o → x ≡ checked 0 (concat (map outcomeBytes ts))

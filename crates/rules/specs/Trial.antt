@@ -677,7 +677,7 @@ whyRows =
 
 -- ---- request 2.5 of document 02: many recipes checked together
 
--- a buffer, the lengths, the bytes behind them in the list and those of the space; the number, and number and place of each recipe
+-- a buffer, the lengths, the bytes behind them in the list, and the space's length; the number, and then number and place of each recipe
 pub record BatchRow : Type 0 where
   pub recipes : List ℕ
   pub lengths : List ℕ
@@ -793,12 +793,12 @@ allWhy [] = true
 allWhy (x ∷ xs) = whyPasses x (whyOn (x .table) (x .block) (replicate (x .room) 7)) && allWhy xs
 
 -- a refusal leaves the space as it was
-abbrev pub left : ℕ → List ℕ → List ℕ → List ℕ
-left zero o ns = words ns
-left (suc n) o ns = o
+abbrev pub spaceAfter : (number : ℕ) → (space told : List ℕ) → List ℕ
+spaceAfter zero o ns = words ns
+spaceAfter (suc n) o ns = o
 
 abbrev pub batchPasses : BatchRow → List ℕ → Checked → Bool
-batchPasses x o r = eqb (r .number) (x .number) && same (left (x .number) o (x .told)) (r .outcomes)
+batchPasses x o r = eqb (r .number) (x .number) && same (spaceAfter (x .number) o (x .told)) (r .outcomes)
 
 unfoldable pub allBatch : List BatchRow → Bool
 allBatch [] = true

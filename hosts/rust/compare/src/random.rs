@@ -1,5 +1,7 @@
 //! A small seeded generator of random numbers (SplitMix64), so that a seed tells a whole run.
 
+use std::ops::Range;
+
 pub struct Random(u64);
 
 impl Random {
@@ -47,6 +49,24 @@ impl Random {
         }
         bytes.truncate(length);
         bytes
+    }
+
+    /// Buffers in one larger one, in their order, with random bytes before, between and behind them; and where each stands.
+    pub fn scatter<const N: usize>(&mut self, buffers: [&[u8]; N]) -> (Vec<u8>, [Range<usize>; N]) {
+        let mut memory = Vec::new();
+        let stand = buffers.map(|buffer| {
+            self.gap(&mut memory);
+            let start = memory.len();
+            memory.extend(buffer);
+            start..memory.len()
+        });
+        self.gap(&mut memory);
+        (memory, stand)
+    }
+
+    fn gap(&mut self, memory: &mut Vec<u8>) {
+        let length = self.within(1, 40);
+        memory.extend(self.bytes(length));
     }
 
     pub fn shuffle<T>(&mut self, list: &mut [T]) {

@@ -224,20 +224,12 @@ fn neighbouring_bytes_are_kept() {
     let mut accepted = 0;
     for _ in 0..10_000 {
         let batch = any_batch(&mut random);
-        let gaps = [(); 4].map(|()| random.within(1, 40));
-        let mut memory = random.bytes(gaps[0]);
-        for (part, gap) in [&batch.recipes, &batch.lengths, &batch.outcomes].into_iter().zip(&gaps[1..]) {
-            memory.extend(part);
-            memory.extend(random.bytes(*gap));
-        }
+        let (mut memory, [recipes, lengths, space]) = random.scatter([&batch.recipes, &batch.lengths, &batch.outcomes]);
         let before = memory.clone();
-        let at = memory.len() - gaps[3] - batch.outcomes.len();
-        let (given, rest) = memory.split_at_mut(at);
-        let recipes = &given[gaps[0]..gaps[0] + batch.recipes.len()];
-        let lengths = &given[at - gaps[2] - batch.lengths.len()..at - gaps[2]];
-        let number = (LIBRARY.check_all)(recipes, lengths, &mut rest[..batch.outcomes.len()]);
-        let end = if number == 0 { at + batch.outcomes.len() } else { at };
-        assert!(memory[..at] == before[..at] && memory[end..] == before[end..]);
+        let (given, rest) = memory.split_at_mut(space.start);
+        let number = (LIBRARY.check_all)(&given[recipes], &given[lengths], &mut rest[..space.len()]);
+        let end = if number == 0 { space.end } else { space.start };
+        assert!(memory[..space.start] == before[..space.start] && memory[end..] == before[end..]);
         accepted += u32::from(number == 0);
     }
     assert!(accepted > 5_000, "{accepted}");

@@ -202,23 +202,12 @@ fn neighbouring_bytes_are_kept() {
     let mut accepted = 0;
     for _ in 0..20_000 {
         let case = random_case(&mut random);
-        let gaps = [(); 4].map(|()| random.within(1, 40));
-        let parts = [&case.table, &case.block, &case.chain];
-        let mut memory = random.bytes(gaps[0]);
-        for (part, gap) in parts.into_iter().zip(&gaps[1..]) {
-            memory.extend(part);
-            memory.extend(random.bytes(*gap));
-        }
+        let (mut memory, [table, block, chain]) = random.scatter([&case.table, &case.block, &case.chain]);
         let before = memory.clone();
-        let block_at = gaps[0] + case.table.len() + gaps[1];
-        let chain_at = block_at + case.block.len() + gaps[2];
-        let (first, rest) = memory.split_at_mut(block_at);
-        let (second, third) = rest.split_at_mut(chain_at - block_at);
-        let table = &first[gaps[0]..gaps[0] + case.table.len()];
-        let (block, chain) = (&second[..case.block.len()], &mut third[..case.chain.len()]);
-        let explained = why_stuck(table, block, chain);
-        let end = chain_at + 2 * explained.count as usize;
-        assert!(memory[..chain_at] == before[..chain_at] && memory[end..] == before[end..]);
+        let (given, rest) = memory.split_at_mut(chain.start);
+        let explained = why_stuck(&given[table], &given[block], &mut rest[..chain.len()]);
+        let end = chain.start + 2 * explained.count as usize;
+        assert!(memory[..chain.start] == before[..chain.start] && memory[end..] == before[end..]);
         accepted += u32::from(explained.number == 0);
     }
     assert!(accepted > 500, "{accepted}");

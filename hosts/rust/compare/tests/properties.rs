@@ -345,29 +345,20 @@ fn neighbouring_bytes_are_kept() {
     let mut random = Random::new(22);
     for _ in 0..20_000 {
         let case = random_case(&mut random);
-        let gaps = [(); 4].map(|()| random.within(1, 40));
         let call = &case.calls[0];
-        let lengths = [case.table.len(), case.block.len(), call.log.len()];
-        let before = random.bytes(gaps.iter().sum::<usize>() + lengths.iter().sum::<usize>());
-        let mut memory = before.clone();
-        let (first, rest) = memory[gaps[0]..].split_at_mut(lengths[0] + gaps[1]);
-        let (second, rest) = rest.split_at_mut(lengths[1] + gaps[2]);
-        let (table, block, log) = (&mut first[..lengths[0]], &mut second[..lengths[1]], &mut rest[..lengths[2]]);
-        table.copy_from_slice(&case.table);
-        block.copy_from_slice(&case.block);
+        let (mut memory, [table, block, log]) = random.scatter([&case.table, &case.block, &call.log]);
+        let before = memory.clone();
+        let (first, rest) = memory.split_at_mut(block.start);
+        let (second, third) = rest.split_at_mut(log.start - block.start);
+        let (table, state) = (&first[table], &mut second[..block.len()]);
         if case.fresh {
-            start(table, block);
+            start(table, state);
         }
-        let answer = run(table, block, call.budget, log);
-        assert!(table == case.table);
-        let written = 8 * answer.records as usize;
-        let spans = [lengths[0], lengths[1], written];
-        let mut at = 0;
-        for (i, gap) in gaps.into_iter().enumerate() {
-            // The log's bytes past the last record belong to the last gap.
-            let end = if i == 3 { memory.len() } else { at + gap };
-            assert!(memory[at..end] == before[at..end]);
-            at = end + spans.get(i).copied().unwrap_or(0);
+        let answer = run(table, state, call.budget, &mut third[..log.len()]);
+        // The log's bytes past the last record are kept too.
+        let written = log.start + 8 * answer.records as usize;
+        for kept in [0..block.start, block.end..log.start, written..before.len()] {
+            assert!(memory[kept.clone()] == before[kept]);
         }
     }
 }
