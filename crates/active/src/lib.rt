@@ -1,4 +1,7 @@
 // The steps of the active task, until it leaves or the call stops.
+
+#![tactic(auto)]
+
 ghost use Rattle.std.specs.Prelude.{◌≡◌, true, List, ℕ, ◌≤◌, ◌<◌, length};
 ghost use Rattle.std.proofs.Math.Option.{none};
 ghost use Rattle.rules.specs.Recipe.{write};
@@ -17,7 +20,7 @@ use state::Task;
 
 // Why the active task no longer goes on, the task and the count then, and its last move: where the call goes on, that move is made but for
 // what it does to the queue; where the call stops, it is not made.
-#[derive(Drop)]
+#[derive(Clone, Copy)]
 pub struct Proceeded {
     pub stop: Stop,
     pub task: Task,

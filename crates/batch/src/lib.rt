@@ -1,4 +1,7 @@
 // A batch of recipes: all checked in one call.
+
+#![tactic(auto)]
+
 ghost use Rattle.std.specs.Prelude.{◌≡◌, ◌+◌, ◌*◌, ◌≤◌, length, take, drop};
 ghost use Rattle.std.proofs.lemmas.List.Edits.{sets};
 ghost use Rattle.rules.specs.Batch.{total, outcome_bytes, outcomes_of, is_batch, checked, check_all_on, IsBatch, BatchSays};

@@ -1,4 +1,7 @@
 // The step tests, the step count and the log of a run call.
+
+#![tactic(auto)]
+
 ghost use Rattle.std.specs.Prelude.{◌≡◌, List, ℕ, suc, ◌-◌, ◌/◌, ◌≤◌, ◌<◌, length};
 ghost use Rattle.std.proofs.Math.Option.{none, some};
 ghost use Rattle.rules.specs.Recipe.{Recipe};
@@ -13,14 +16,14 @@ use events::{Event, Outcome, outcome_of, put_event};
 use moves::Move;
 
 // The steps made and the bytes of the log written.
-#[derive(Drop)]
+#[derive(Clone, Copy)]
 pub struct Count {
     pub steps: u32,
     pub written: usize,
 }
 
 // What the tests before a step go by, besides the log: the tasks queued, the number issued last, and the budget.
-#[derive(Drop)]
+#[derive(Clone, Copy)]
 pub struct Bounds {
     pub queued: usize,
     pub issued: u16,
@@ -28,7 +31,7 @@ pub struct Bounds {
 }
 
 // The name of a stop, or that the run goes on.
-#[derive(Drop)]
+#[derive(Clone, Copy)]
 pub enum Stop {
     More,
     Finished,
@@ -41,7 +44,7 @@ pub enum Stop {
 }
 
 // What the tests before a step decide, and the count after it.
-#[derive(Drop)]
+#[derive(Clone, Copy)]
 pub struct Decided {
     pub stop: Stop,
     pub count: Count,

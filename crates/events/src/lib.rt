@@ -1,4 +1,7 @@
 // What a step tells.
+
+#![tactic(auto)]
+
 ghost use Rattle.std.specs.Prelude.{◌≡◌, ◌+◌, ◌≤◌, length};
 ghost use Rattle.std.proofs.lemmas.List.Edits.{sets};
 ghost use Rattle.rules.specs.Log.{event_row};
@@ -10,7 +13,7 @@ use values::unsigned;
 
 // The number of the task acting; then of a spawn the new number, of a wait or a turn the number awaited, of a valve its name
 // and the value set.
-#[derive(Drop)]
+#[derive(Clone, Copy)]
 pub enum Event {
     Spawned(u16, u16),
     Taken(u16),
@@ -22,7 +25,7 @@ pub enum Event {
 }
 
 // The small facts of a step: it went on with its log event, or without one, or the stop's name.
-#[derive(Drop)]
+#[derive(Clone, Copy)]
 pub enum Outcome {
     Went(Event),
     Quiet,

@@ -1,4 +1,7 @@
 // The value of an expression, if it has one, worked out from its records.
+
+#![tactic(auto)]
+
 ghost use Rattle.std.specs.Prelude.{◌≡◌, ◌≤◌, ◌<◌};
 ghost use Rattle.std.proofs.Math.Option.{some};
 ghost use Rattle.rules.specs.Recipe.{read, value};
@@ -10,7 +13,7 @@ use table::record::{beyond, enclosed, word_of};
 use values::{apply1, apply2, signed};
 
 // What working out an expression gives.
-#[derive(Drop)]
+#[derive(Clone, Copy)]
 pub enum Evaluated {
     Value(i32),
     NoValue,

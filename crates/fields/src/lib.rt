@@ -1,4 +1,7 @@
 // Fields of several bytes, little-endian, in a buffer.
+
+#![tactic(auto)]
+
 ghost use Rattle.std.specs.Prelude.{◌≡◌, ◌+◌, ◌<◌, ◌≤◌, length};
 ghost use Rattle.std.proofs.lemmas.List.Edits.{sets};
 ghost use Rattle.rules.specs.Fields.{half, word, signed, bits, bytes2, bytes4};

@@ -1,4 +1,7 @@
 // The tries with no task active: the first ready task is looked for once, those before it are turned, and it is taken up.
+
+#![tactic(auto)]
+
 ghost use Rattle.std.specs.Prelude.{◌≡◌, cond, List, ℕ, ◌+◌, ◌-◌, ◌*◌, ◌/◌, ◌≤◌, ◌<◌, leb, length};
 ghost use Rattle.std.proofs.Math.Option.{none, some};
 ghost use Rattle.rules.specs.Recipe.{Recipe};
@@ -18,7 +21,7 @@ use ready::{Wait, first_ready, waiting_at};
 use state::unpack;
 
 // Why no task was taken up, or that one was; and how many were turned before it.
-#[derive(Drop)]
+#[derive(Clone, Copy)]
 pub struct Tried {
     pub stop: Stop,
     pub count: Count,

@@ -1,4 +1,7 @@
 // Where each statement of an accepted table leads, and where its procedures start, in one pass over the records.
+
+#![tactic(auto)]
+
 ghost use Rattle.std.specs.Prelude.{◌≡◌, ◌+◌, ◌≤◌, ◌<◌, length, set};
 ghost use Rattle.rules.specs.Table.{span_of, fine, check, body_of, recipe_of};
 ghost use Rattle.rules.specs.Places.{nowhere, points_s, points_b, points_r};

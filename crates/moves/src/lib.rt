@@ -1,4 +1,7 @@
 // What the active task does next.
+
+#![tactic(auto)]
+
 ghost use Rattle.std.specs.Prelude.{◌≡◌, true, cond, ◌+◌, ◌≤◌, nat_abs, get_or};
 ghost use Rattle.rules.specs.Values.{truth};
 ghost use Rattle.rules.specs.Recipe.{value};
@@ -17,7 +20,7 @@ use table::record::{enclosed, from, span_of, word_of};
 // On to a place; a variable's name, its new value and the next place; the name of the variable for the new task's number,
 // the place where that task starts, its argument and the next place; to the back of the queue, at the next place; to the
 // back, where it stands, with what its log record carries; the end; none, since its expression has no value.
-#[derive(Drop)]
+#[derive(Clone, Copy)]
 pub enum Move {
     Goes(u16),
     Sets(u8, i32, u16),

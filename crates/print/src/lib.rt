@@ -1,4 +1,7 @@
 // A recipe's run as text: what the print program writes.
+
+#![tactic(auto)]
+
 ghost use Rattle.std.specs.Prelude.{◌≡◌, [], ◌++◌, ◌+◌, ◌*◌, ◌≤◌, length, drop};
 ghost use Rattle.rules.specs.Fields.{signed};
 ghost use Rattle.rules.specs.Print.{line, line_at, lines, ending_line, refused_line, ends, run_text, text_on, printed};

@@ -1,4 +1,7 @@
 // Which queued tasks are ready. The queue is a ring of packed tasks: `queued` of them, the front at the index `front`.
+
+#![tactic(auto)]
+
 ghost use Rattle.std.specs.Prelude.{◌≡◌, true, false, ℕ, ◌*◌, ◌/◌, ◌<◌, ◌≤◌, get_or};
 ghost use Rattle.rules.specs.Recipe.{Recipe};
 ghost use Rattle.rules.specs.Table.{fine, check, recipe_of};
@@ -14,7 +17,7 @@ use expr::{Evaluated, eval, variable};
 use state::{Task, unpack};
 use table::record::{enclosed, from};
 
-#[derive(Drop)]
+#[derive(Clone, Copy)]
 pub enum Wait {
     Ready,
     Waits(i32),
@@ -22,7 +25,7 @@ pub enum Wait {
 }
 
 // A queued task, and whether it is ready, waits for a number, or waits at a guard.
-#[derive(Drop)]
+#[derive(Clone, Copy)]
 pub struct Queued {
     pub task: Task,
     pub wait: Wait,

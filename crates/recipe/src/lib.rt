@@ -1,4 +1,7 @@
 // The C interface: all that hosts call, in one archive. A slice is a pointer and a length.
+
+#![tactic(auto)]
+
 ghost use Rattle.std.specs.Prelude.{◌≡◌};
 ghost use Rattle.rules.specs.Run.{start_on, run_on};
 ghost use Rattle.rules.specs.Answers.{StartAnswers, StartSays, RunAnswers, RunSays};

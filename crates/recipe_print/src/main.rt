@@ -1,4 +1,7 @@
 // Reads a recipe's table from standard input and prints its run with budget 10,000 and a log of 4,096 records: what `print_recipe` says of it.
+
+#![tactic(auto)]
+
 use libc::{STDIN_FILENO, STDOUT_FILENO};
 use print::print_recipe;
 

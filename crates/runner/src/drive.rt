@@ -14,7 +14,7 @@ use ready::past;
 use state::{State, Task, unpack};
 
 // Why a call stopped, its count, and the state that it leaves.
-#[derive(Drop)]
+#[derive(Clone, Copy)]
 pub struct Ran {
     pub stop: Stop,
     pub count: Count,

@@ -1,4 +1,7 @@
 // The recipe runner: start a recipe and run it.
+
+#![tactic(auto)]
+
 pub mod call;
 pub mod drive;
 
@@ -13,7 +16,7 @@ use table::check::check_table;
 
 // 0 and 0 when accepted; else why not, and the faulty record.
 #[repr(C)]
-#[derive(Drop)]
+#[derive(Clone, Copy)]
 pub struct Started {
     pub number: u32,
     pub place: u32,
@@ -21,7 +24,7 @@ pub struct Started {
 
 // How a run call ended or why it was refused, the steps made, the log records written, and the faulty record.
 #[repr(C)]
-#[derive(Drop)]
+#[derive(Clone, Copy)]
 pub struct Answer {
     pub number: u32,
     pub steps: u32,

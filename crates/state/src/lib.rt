@@ -1,5 +1,7 @@
 // The state of a run, by value.
 
+#![tactic(auto)]
+
 ghost use Rattle.std.specs.Prelude.{◌≡◌, true, false, ◌+◌, ◌<◌, ◌≤◌, set};
 ghost use Rattle.rules.specs.State as R;
 ghost use Rattle.rules.specs.Steps.{go_to};
@@ -7,7 +9,7 @@ ghost use Rattle.state.specs.View.{task_of, packed, unpacked, entry, view, Fine,
 
 use values::{signed, unsigned};
 
-#[derive(Drop)]
+#[derive(Clone, Copy)]
 pub struct Task {
     pub number: u16,
     pub place: u16,
@@ -16,7 +18,7 @@ pub struct Task {
 
 // `current` is the active task where `active` is true.
 // The queue is a ring of packed tasks: `queued` of them, the front at the index `front`.
-#[derive(Drop)]
+#[derive(Clone, Copy)]
 pub struct State {
     pub issued: u16,
     pub active: bool,

@@ -7,14 +7,14 @@ ghost use Rattle.table.specs.Check.{name_leasts, name_mosts, code_of, codes, enc
 use crate::record::{beyond, enclosed, from, span_of, wide, word_of};
 
 // What checking finds: the number and the place of a fault, or 0 and 0 where there is none.
-#[derive(Drop)]
+#[derive(Clone, Copy)]
 pub struct Verdict {
     pub number: u32,
     pub place: u32,
 }
 
 // What is due where a record stands.
-#[derive(Drop)]
+#[derive(Clone, Copy)]
 pub enum Sort {
     Procedure,
     Statement,
@@ -22,7 +22,7 @@ pub enum Sort {
 }
 
 // Where what a record encloses must end, in its part.
-#[derive(Drop)]
+#[derive(Clone, Copy)]
 pub enum Ends {
     AtEnd,
     BeforeEnd,

@@ -1,4 +1,7 @@
 // Words and numbers as text in a buffer.
+
+#![tactic(auto)]
+
 ghost use Rattle.std.specs.Prelude.{[], ◌∷◌, ◌+◌, ◌<◌, ◌≤◌, length};
 ghost use Rattle.rules.specs.Fields.{signed};
 ghost use Rattle.rules.specs.Print.{kind_word, ending_word, decimal, spaced, spaced_value};

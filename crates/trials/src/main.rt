@@ -3,6 +3,9 @@
 // print, state and, for run, log or, for why_stuck, chain; for check_all recipes, lengths and outcomes.
 // A buffer is a record of 8 bytes (bytes 2-3: how many bytes follow; bytes 4-7: the buffer's length) and these bytes; from there on each byte is as
 // the one 8 before it, so that a long row of one record is short.
+
+#![tactic(auto)]
+
 ghost use Rattle.std.specs.Prelude.{◌≤◌, length};
 
 use batch::check_all;

@@ -1,5 +1,8 @@
 // Values of 32 bits that stop at the ends of their range: each exact result is worked out in 64 bits, where it fits.
 // A name in a contract is a definition of `rules`, also where a function here has the same name.
+
+#![tactic(auto)]
+
 ghost use Rattle.std.specs.Prelude.{◌≡◌, false, not, ◌&&◌, ◌||◌, neg_ℤ, ◌+ℤ◌, ◌-ℤ◌, ◌*ℤ◌};
 ghost use Rattle.std.proofs.Math.Option.{none, some};
 ghost use Rattle.std.specs.Int.Signed.{lt_z};

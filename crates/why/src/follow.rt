@@ -12,7 +12,7 @@ ghost use Rattle.why.specs.Follow.{chain_in, of_number, index_in, Holds, Followi
 use ready::{Wait, natural, waiting_at};
 
 // How a chain ends: in a task named earlier, in one that waits for a number never issued, or in one at an untrue guard.
-#[derive(Drop)]
+#[derive(Clone, Copy)]
 pub enum End {
     NamedEarlier,
     NeverIssued,
@@ -20,7 +20,7 @@ pub enum End {
 }
 
 // The first `count` numbers are the chain's.
-#[derive(Drop)]
+#[derive(Clone, Copy)]
 pub struct Chain {
     pub numbers: [u16; 33],
     pub count: usize,
@@ -28,7 +28,7 @@ pub struct Chain {
 }
 
 // What holds a task that waits: a queued task, by its index from the front; a number never issued; its guard.
-#[derive(Drop)]
+#[derive(Clone, Copy)]
 pub enum Holder {
     Task(usize),
     NeverIssued,

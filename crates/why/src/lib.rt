@@ -1,4 +1,7 @@
 // Why a state is stuck: the chain of its tasks that wait, from the front of the queue, each for the next.
+
+#![tactic(auto)]
+
 pub mod follow;
 
 ghost use Rattle.std.specs.Prelude.{◌≡◌, true, ◌↔◌, ◌++◌, ◌*◌, ◌≤◌, length, take, drop};
@@ -21,7 +24,7 @@ use state::State;
 
 // 0, the task numbers written, how the chain ends (1 to 3) and 0; or why there is none, 0, 0 and the faulty record.
 #[repr(C)]
-#[derive(Drop)]
+#[derive(Clone, Copy)]
 pub struct Explained {
     pub number: u32,
     pub count: u32,
