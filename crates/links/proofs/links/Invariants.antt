@@ -1,0 +1,17 @@
+-- The loop's invariant: what is left of the table makes of the two lists, as they are, what they are to become.
+-- Assumes nothing.
+use mathlib.Core.Path.{ap}
+use native.Mathlib.Omega.{arith}
+use lib.ListN.{length}
+use Rattle.rules.specs.Table.{recipe_of}
+use Rattle.rules.specs.Places.{nowhere, points_r}
+use Rattle.rules.proofs.Grammar.Checking.{length-after}
+use Rattle.links.specs.Links.{linked, started}
+use Rattle.links.proofs.Procedures.{Left, left_all, left_none, Turn, turn}
+use Rattle.links.proofs.links.Given as goal
+
+abbrev pub invariant-loop-rest : goal.invariant-loop-rest
+invariant-loop-rest l =     Left (linked (points_r (recipe_of l.table) 0 nowhere) 0 l.initial.next) (started (recipe_of l.table) l.initial.starts) l.at l.number l.rest l.next l.starts
+
+abbrev pub decreases-loop-rest : goal.decreases-loop-rest
+decreases-loop-rest l = length l.rest

@@ -1,0 +1,50 @@
+use Prim.Native.Nat.{ℕ}
+use mathlib.Core.List.{List}
+use mathlib.Core.Path.{sym, ap, ◌∙◌, subst⁻¹}
+use native.Mathlib.Omega.{arith}
+use lib.ListN.{get_or}
+use borrow.Author.Rules.{rules}
+use Rattle.rules.specs.Table.{recipe_of}
+use Rattle.rules.specs.Places.{Point, start}
+use Rattle.rules.specs.Standing.{point_at}
+use Rattle.state.specs.View.{task_of}
+use Rattle.moves.specs.Moves.{Moves, Begins}
+use Rattle.ready.proofs.There.{Place, end-there, few-there}
+use Rattle.moves.proofs.Standing.{stop-there, part-there, span-there, from-two, some-place, leads-there, begins_there}
+use Rattle.moves.proofs.Acting.{end-moves}
+use Rattle.moves.proofs.move_of.Goals as goal
+
+pub overflow_cast-place : goal.overflow_cast-place
+overflow_cast-place c = search rules
+
+pub overflow_mul-off : goal.overflow_mul-off
+overflow_mul-off c = search rules
+
+pub bounds-table-off : goal.bounds-table-off
+bounds-table-off c = search rules
+
+pub from-requires : goal.from-requires
+from-requires c = search rules
+
+pub offset_bounds-next-place : goal.offset_bounds-next-place
+offset_bounds-next-place c = search rules
+
+pub statement-requires : goal.statement-requires
+statement-requires c =
+
+    let p = place c.before.before.before.before.before.before in
+    let l = c.if-table-off.false in
+    let h = c.if-table-off-eq1.false in
+    rw c.from.ensures (part-there p l h, span-there p l h, from-two p l h, some-place p l h)
+
+pub returns : goal.returns
+returns c =
+
+    let a = c.args in
+    let r = recipe_of a.table.now in
+    let f = c.from.ensures in
+    let g = leads-there (place c.before.before.before.before.before.before.before) c.if-table-off.false c.if-table-off-eq1.false a.next.now c.requires.2.next_is in
+    let b = begins_there (place c.before.before.before.before.before.before.before) c.if-table-off.false c.if-table-off-eq1.false a.next.now a.starts.now c.requires.2 in
+    let x = g ∙ ap (λ (p : List ℕ). point_at p a.t.place (get_or a.next.now a.t.place 0)) (sym f) in
+    subst⁻¹ (λ (x : Point ℕ). Moves (start r) x a.variables.now (task_of a.t) c.statement.result) x
+    (c.statement.ensures (start r) (subst⁻¹ (Begins (start r) a.starts.now) f b))

@@ -1,0 +1,15 @@
+use Prim.Native.Nat.{ℕ, ◌*◌, ◌-◌, ◌≤◌}
+use mathlib.Core.Path.{◌≡◌, sym, ap}
+use native.Mathlib.Omega.{arith}
+use Rattle.rules.specs.Print.{lines}
+use Rattle.text.specs.Puts.{Puts}
+use Rattle.text.proofs.Buffers as buffers
+use Rattle.text.proofs.Buffers.{none, reads_as, then}
+use Rattle.print.proofs.Texts.{lines_none, lines_more}
+use Rattle.print.proofs.put_lines.Given as goal
+
+abbrev pub invariant-loop-i : goal.invariant-loop-i
+invariant-loop-i l = (l.i ≤ l.records) × (l.at ≤ 30 * l.i) × Puts l.initial.b 0 (lines l.log l.i) l.at l.b
+
+abbrev pub decreases-loop-i : goal.decreases-loop-i
+decreases-loop-i l = l.records - l.i

@@ -1,0 +1,13 @@
+use Prim.Native.Nat.{ℕ, ◌≤◌, ◌<◌, ◌-◌}
+use mathlib.Core.Path.{◌≡◌, sym}
+use native.Mathlib.Omega.{arith}
+use borrow.Author.Count.{below_more}
+use Rattle.state.specs.View.{entry, queue_of}
+use Rattle.ready.proofs.Queue.{none_live, one-live}
+use Rattle.ready.proofs.is_live.Given as goal
+
+abbrev pub invariant-loop-i : goal.invariant-loop-i
+invariant-loop-i l = (l.i ≤ l.queued) × ((k : ℕ) → k < l.i → ¬ (l.number ≡ (entry l.queue l.front k).number))
+
+abbrev pub decreases-loop-i : goal.decreases-loop-i
+decreases-loop-i l = l.queued - l.i

@@ -1,0 +1,13 @@
+use mathlib.Core.Path.{◌≡◌, refl, sym, ap, ◌∙◌}
+use Prim.Native.Nat.{◌-◌, ◌*◌}
+use native.Mathlib.Omega.{arith}
+use lib.ListN.{length, drop}
+use Rattle.rules.specs.Table.{check_spawns, names_none, records}
+use Rattle.table.proofs.Whole.{Rest, rest-start, rest_some, rest-next, spawns-here, spawns-next, spawns-end}
+use Rattle.table.proofs.check.check_spawns.Given as goal
+
+abbrev pub invariant-loop-off : goal.invariant-loop-off
+invariant-loop-off l = Rest l.table l.off × (check_spawns (records (drop l.off l.table)) l.n l.i (drop l.off l.table) ≡ check_spawns (records l.table) l.n 0 l.table) × (8 * l.i ≡ l.off)
+
+abbrev pub decreases-loop-off : goal.decreases-loop-off
+decreases-loop-off l = length l.table - l.off

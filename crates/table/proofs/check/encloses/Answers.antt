@@ -1,0 +1,20 @@
+use Rattle.rules.specs.Table.{kind_of}
+use mathlib.Core.Path.{ap, ◌∙◌}
+use Prim.Native.Nat.{ℕ}
+use lib.ListN.{get_or}
+use Rattle.table.specs.Check.{codes}
+use Rattle.table.proofs.Columns.{code}
+use borrow.Author.Rules.{rules}
+use Rattle.table.proofs.check.encloses.Goals as goal
+
+pub bounds-part-0 : goal.bounds-part-0
+bounds-part-0 c = search rules
+
+pub wide-requires : goal.wide-requires
+wide-requires c = search rules
+
+pub code-requires : goal.code-requires
+code-requires c = search rules
+
+pub returns : goal.returns
+returns c = c.code.ensures ∙ ap (λ (k : ℕ). get_or codes k 0) c.wide.ensures.0 ∙ code (kind_of c.args.part.now)

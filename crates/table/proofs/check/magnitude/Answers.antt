@@ -1,0 +1,13 @@
+use native.Mathlib.Omega.{arith}
+use Rattle.table.proofs.Whole.{magnitude_low, magnitude_high}
+use borrow.Author.Rules.{rules}
+use Rattle.table.proofs.check.magnitude.Goals as goal
+
+pub returns-then-word-lt2147483648 : goal.returns-then-word-lt2147483648
+returns-then-word-lt2147483648 c = magnitude_low c.args.word c.if-word-lt2147483648.true
+
+pub overflow_sub-result : goal.overflow_sub-result
+overflow_sub-result c = search rules
+
+pub returns : goal.returns
+returns c = magnitude_high c.args.word (omega arith) c.if-word-lt2147483648.false

@@ -1,0 +1,13 @@
+use mathlib.Core.Path.{refl, sym}
+use mathlib.Core.List.{[], ◌∷◌}
+use borrow.Author.Tests.{ne_eqb}
+use Rattle.table.specs.Check.{name_leasts}
+use Rattle.table.proofs.Columns.{elsewhere}
+use borrow.Author.Rules.{rules}
+use Rattle.table.proofs.check.name_least.Goals as goal
+
+pub returns-then-kind-eq6 : goal.returns-then-kind-eq6
+returns-then-kind-eq6 c = search rules
+
+pub returns : goal.returns
+returns c = sym (elsewhere name_leasts (6 ∷ []) 14 refl _ c.requires (rw (ne_eqb _ _ c.if-kind-eq6.false) refl))

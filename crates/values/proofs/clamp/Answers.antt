@@ -1,0 +1,16 @@
+use mathlib.Core.Path.{◌∙◌}
+use mir.Facts.{to_z-of_z}
+use Rattle.values.proofs.Range as range
+use Rattle.values.proofs.clamp.Goals as goal
+
+pub returns-then-x-ltminus2147483648 : goal.returns-then-x-ltminus2147483648
+returns-then-x-ltminus2147483648 c = range.low _ (rw (to_z-of_z c.ranges.x) at c.if-x-ltminus2147483648.true)
+
+pub returns-then-x-gt2147483647 : goal.returns-then-x-gt2147483647
+returns-then-x-gt2147483647 c =     let e = to_z-of_z c.ranges.x in
+    range.high _ (rw e at c.if-x-ltminus2147483648.false) (rw e at c.if-x-gt2147483647.true)
+
+pub overflow_cast-result : goal.overflow_cast-result
+overflow_cast-result c =     let e = to_z-of_z c.ranges.x in
+    rw e (range.in_range_lem _ (rw e at c.if-x-ltminus2147483648.false) (rw e at c.if-x-gt2147483647.false))
+
