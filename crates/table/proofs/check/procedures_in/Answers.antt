@@ -6,6 +6,7 @@ use lib.ListN.{length, drop}
 use Rattle.rules.specs.Table.{procedures, records}
 use Rattle.table.proofs.Whole.{Rest, rest-start, rest-next, counted, passed_over, procedures-end}
 use Rattle.table.proofs.check.procedures_in.Goals as goal
+use Rattle.table.proofs.check.procedures_in.Goals.{then-table-off-eq1, else-table-off-eq1}
 
 pub loop-off-init : goal.loop-off-init
 loop-off-init c = (rest-start _ c.requires, omega arith, omega arith)
@@ -21,6 +22,15 @@ overflow_add-off c = omega (arith, (rest-next c.loop-off.invariant.0 c.loop-off-
 
 pub loop-off-smaller : goal.loop-off-smaller
 loop-off-smaller c = omega arith
+
+pub loop-off-preserved : goal.loop-off-preserved
+loop-off-preserved c =
+    let l = c.loop-off in
+    let h = c.loop-off-test.true in
+    elim c.if-table-off-eq1.branch [
+      then-table-off-eq1 w ↦ (rest-next l.invariant.0 h, rw w.count-is (counted _ l.off l.count l.invariant.0 h l.invariant.1 w.if-table-off-eq1.true), omega (arith, w.count-is, l.invariant.2))
+    | else-table-off-eq1 w ↦ (rest-next l.invariant.0 h, rw w.count-is (passed_over _ l.off l.count l.invariant.0 h l.invariant.1 w.if-table-off-eq1.false), omega (arith, w.count-is, l.invariant.2))
+    ]
 
 pub returns : goal.returns
 returns c = let l = c.loop-off in let e = procedures-end l.invariant.0 c.loop-off-test.false in omega (arith, l.invariant.1)
