@@ -1,17 +1,8 @@
 use borrow.Author.Rules.{rules}
 use Rattle.table.proofs.check.is_of.Goals as goal
 
-pub enum_told-1 : goal.enum_told-1
-enum_told-1 c = search rules
-
-pub enum_told-in-Statement : goal.enum_told-in-Statement
-enum_told-in-Statement c = search rules
-
 pub is_statement-requires : goal.is_statement-requires
 is_statement-requires c = search rules
-
-pub enum_told-in-Expression : goal.enum_told-in-Expression
-enum_told-in-Expression c = search rules
 
 pub between-requires : goal.between-requires
 between-requires c = search rules
