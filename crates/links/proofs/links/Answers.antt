@@ -3,29 +3,48 @@
 use mathlib.Core.Path.{ap}
 use native.Mathlib.Omega.{arith}
 use lib.ListN.{length}
-use Rattle.rules.specs.Table.{recipe_of}
-use Rattle.rules.specs.Places.{nowhere, points_r}
 use Rattle.rules.proofs.Grammar.Checking.{length-after}
-use Rattle.links.specs.Links.{linked, started}
-use Rattle.links.proofs.Procedures.{Left, left_all, left_none, Turn, turn}
+use Rattle.links.proofs.Procedures.{left_all, left_none, turn}
 use Rattle.links.proofs.links.Goals as goal
-
-abbrev Loop : Type 0
-Loop = goal.In-loop-rest
-
-turn_of_lem : (c : Loop) → let a = c.args in let l = c.loop-rest in
-    Turn (linked (points_r (recipe_of a.table.now) 0 nowhere) 0 a.next.now) (started (recipe_of a.table.now) a.starts.now) l.at l.number l.rest.now l.next l.starts
-turn_of_lem c = turn c.loop-rest.invariant c.loop-rest-test.true
 
 pub loop-rest-init : goal.loop-rest-init
 loop-rest-init c = let a = c.args in left_all a.table.now a.next.now a.starts.now (λ i. omega (arith, c.type_inv.table i)) c.requires
 
 pub overflow_add-end : goal.overflow_add-end
-overflow_add-end c = omega (arith, (turn_of_lem c).few)
+overflow_add-end c = omega (arith, (turn c.loop-rest.invariant c.loop-rest-test.true).few)
 
 pub span_of-requires : goal.span_of-requires
-span_of-requires c = omega (arith, (turn_of_lem c).whole)
+span_of-requires c = omega (arith, (turn c.loop-rest.invariant c.loop-rest-test.true).whole)
 
-pub put_start-requires : goal.put_start-requires
-put_start-requires c = tt
+pub overflow_add-end-in-loop-rest : goal.overflow_add-end-in-loop-rest
+overflow_add-end-in-loop-rest c = omega (arith, (turn c.loop-rest.invariant c.loop-rest-test.true).few, c.span_of.ensures.0)
 
+pub enclosed-requires : goal.enclosed-requires
+enclosed-requires c = (turn c.loop-rest.invariant c.loop-rest-test.true).whole
+
+pub place-requires : goal.place-requires
+place-requires c = omega (arith, (turn c.loop-rest.invariant c.loop-rest-test.true).few, c.span_of.ensures.0)
+
+pub link_body-requires : goal.link_body-requires
+link_body-requires c = rw c.enclosed.ensures (turn c.loop-rest.invariant c.loop-rest-test.true).body
+
+pub place-requires-in-loop-rest : goal.place-requires-in-loop-rest
+place-requires-in-loop-rest c = omega (arith, (turn c.loop-rest.invariant c.loop-rest-test.true).few)
+
+pub beyond-more-requires : goal.beyond-more-requires
+beyond-more-requires c = (turn c.loop-rest.invariant c.loop-rest-test.true).whole
+
+pub loop-rest-smaller : goal.loop-rest-smaller
+loop-rest-smaller c =
+    omega (arith, ap length c.beyond-more.ensures, length-after c.loop-rest.rest.now, (turn c.loop-rest.invariant c.loop-rest-test.true).whole)
+
+pub loop-rest-preserved : goal.loop-rest-preserved
+loop-rest-preserved c =
+    rw (c.put_start.ensures, c.place-in-loop-rest.ensures, c.link_body.ensures, c.enclosed.ensures, c.place.ensures, c.span_of.ensures.0, c.beyond-more.ensures)
+    (turn c.loop-rest.invariant c.loop-rest-test.true).behind
+
+pub returns-clause-next_after : goal.returns-clause-next_after
+returns-clause-next_after c = (left_none c.loop-rest.invariant (omega (arith, c.loop-rest-test.false))).0
+
+pub returns-clause-starts_after : goal.returns-clause-starts_after
+returns-clause-starts_after c = (left_none c.loop-rest.invariant (omega (arith, c.loop-rest-test.false))).1

@@ -95,7 +95,7 @@ returns t c =
     let e = c.expression_fault-number.ensures in
     let z = c.if-number-ne0.false in
     let s : check_e (c.args.left - 1) (c.args.at + 1) before_end (inner c.args.part.now) ≡ fine =
-      sym (c.check_expr-first.ensures ∙ ap (check_e _ _ before_end) c.enclosed-inner.ensures) ∙ none_in _ c.if-first-ne0.false in
+    sym (c.check_expr-first.ensures ∙ ap (check_e _ _ before_end) c.enclosed-inner.ensures) ∙ none_in _ c.if-first-ne0.false in
     (rw (c.beyond.ensures, c.span_of.ensures.0, c.enclosed-inner.ensures) at c.check_expr-2.ensures)
     ∙ second _ c.args.at c.args.part.now (eleven _ _ e z c.if-kind-lt11.false c.if-kind-eq12.false) s
     ∙ deep _ _ e z c.args.left c.args.at c.if-left-eq0.false

@@ -80,10 +80,10 @@ returns-then-inside-ne0 t c =
 pub loop-off-preserved : goal.loop-off-preserved
 loop-off-preserved t c =
     let none : check_rows T.statement (c.args.left - 1) (body_at c.loop-off.i c.from-rest.result.now) (body c.from-rest.result.now) ≡ fine =
-      elim c.if-body-gt0.branch [
-        then-body-gt0+else-inside-ne0 w ↦ sym (w.check_rows-inside.ensures ∙ ap₂ (check_rows T.statement _) w.body_at.ensures c.body_of-body.ensures) ∙ none_in _ w.if-inside-ne0.false
+    elim c.if-body-gt0.branch [
+      | then-body-gt0+else-inside-ne0 w ↦ sym (w.check_rows-inside.ensures ∙ ap₂ (check_rows T.statement _) w.body_at.ensures c.body_of-body.ensures) ∙ none_in _ w.if-inside-ne0.false
       | else-body-gt0 w ↦ row-empty T.statement _ _ (body c.from-rest.result.now) (let l = w.if-body-gt0.false in omega (arith, ap length c.body_of-body.ensures))
-      ] in
+    ] in
     let s : c.span_of-span.result ≡ span_of (drop c.loop-off.off c.args.part.now) = c.span_of-span.ensures.0 ∙ ap (λ (l : List ℕ). span_of l) c.from-rest.ensures in
     rw s (left-next c.requires.1 c.loop-off.invariant c.loop-off-test.true
     (passed (sort_of c.args.sort) c.args.left c.args.part.now c.loop-off.off c.loop-off.i _ _ c.from-rest.ensures c.check_head-head.ensures c.if-head-ne0.false)

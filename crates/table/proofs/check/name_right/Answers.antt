@@ -16,4 +16,3 @@ name_most-requires c = search rules
 
 pub between-requires : goal.between-requires
 between-requires c = search rules
-

@@ -28,8 +28,8 @@ loop-off-preserved c =
     let l = c.loop-off in
     let h = c.loop-off-test.true in
     elim c.if-table-off-eq1.branch [
-      then-table-off-eq1 w ↦ (rest-next l.invariant.0 h, rw w.count-is (counted _ l.off l.count l.invariant.0 h l.invariant.1 w.if-table-off-eq1.true), omega (arith, w.count-is, l.invariant.2))
-    | else-table-off-eq1 w ↦ (rest-next l.invariant.0 h, rw w.count-is (passed_over _ l.off l.count l.invariant.0 h l.invariant.1 w.if-table-off-eq1.false), omega (arith, w.count-is, l.invariant.2))
+      | then-table-off-eq1 w ↦ (rest-next l.invariant.0 h, rw w.count-is (counted _ l.off l.count l.invariant.0 h l.invariant.1 w.if-table-off-eq1.true), omega (arith, w.count-is, l.invariant.2))
+      | else-table-off-eq1 w ↦ (rest-next l.invariant.0 h, rw w.count-is (passed_over _ l.off l.count l.invariant.0 h l.invariant.1 w.if-table-off-eq1.false), omega (arith, w.count-is, l.invariant.2))
     ]
 
 pub returns : goal.returns

@@ -22,4 +22,3 @@ code-code-requires c = search rules
 
 pub wide-requires : goal.wide-requires
 wide-requires c = search rules
-

@@ -6,4 +6,3 @@ use Rattle.table.proofs.check.value_right.Goals as goal
 
 pub value_most-requires : goal.value_most-requires
 value_most-requires c = search rules
-
