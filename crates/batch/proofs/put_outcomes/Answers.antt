@@ -47,12 +47,28 @@ overflow_add-at c =
 pub overflow_add-i : goal.overflow_add-i
 overflow_add-i c = omega arith
 
-pub shape_of-out : goal.shape_of-out
-shape_of-out c = c.loop-i.invariant.2 ∙ sym c.requires.room
-
 pub returns : goal.returns
 unfolding outcomes_of
 returns c =
 
     let e : c.loop-i.i ≡ count c.args.lengths.now = omega (arith, c.requires.whole) in
     sym (take_all (8 * count c.args.lengths.now) c.loop-i.out (omega arith)) ∙ (rw e at c.loop-i.invariant.3)
+
+pub loop-i-smaller : goal.loop-i-smaller
+loop-i-smaller c = omega arith
+
+pub loop-i-preserved : goal.loop-i-preserved
+unfolding total
+loop-i-preserved c =
+    let q = c.put_outcome.new.out in
+    let l = c.loop-i in
+    let a = c.args in
+    let recipe = recipe_is a.recipes.now a.lengths.now l.i l.at c.word_at-len.result c.part.result.now l.invariant.1 c.word_at-len.ensures c.part.ensures in
+    let e : q ≡ sets l.out (8 * l.i) (outcome_bytes (recipe_at a.recipes.now a.lengths.now l.i)) =
+      c.put_outcome.ensures ∙ ap (λ (t : List ℕ). sets l.out (8 * l.i) (outcome_bytes t)) recipe in
+    let n = length-sets l.out (8 * l.i) (outcome_bytes (recipe_at a.recipes.now a.lengths.now l.i)) in (
+      omega arith,
+      rw add-one (ap₂ (λ (x y : ℕ). x + y) l.invariant.1 c.word_at-len.ensures),
+      ap length e ∙ n ∙ l.invariant.2,
+      outcome_more a.recipes.now a.lengths.now l.out q l.i (omega arith) l.invariant.3 e,
+    )
