@@ -16,7 +16,7 @@ pub returns-then-not-is_batch : goal.returns-then-not-is_batch
 returns-then-not-is_batch c =
     let a = c.args in
     let e : checked 26 a.outcomes.now ≡ check_all_on a.recipes.now a.lengths.now a.outcomes.now =
-      sym (is_26 _ _ _ (λ h. true≢false (sym (is-batch _ _ _ h) ∙ sym c.is_batch.ensures ∙ c.if-not-is_batch.true))) in
+    sym (is_26 _ _ _ (λ h. true≢false (sym (is-batch _ _ _ h) ∙ sym c.is_batch.ensures ∙ c.if-not-is_batch.true))) in
     record { outcomes_after = e; batch_says = promised a.recipes.now a.lengths.now a.outcomes.now (λ i. omega (arith, c.type_inv.lengths i)) _ e }
 
 pub put_outcomes-requires : goal.put_outcomes-requires
@@ -26,5 +26,5 @@ pub returns : goal.returns
 returns c =
     let a = c.args in
     let e : checked 0 c.put_outcomes.new.out ≡ check_all_on a.recipes.now a.lengths.now a.outcomes.now =
-      ap (checked 0) c.put_outcomes.ensures ∙ sym (is_all _ _ _ (batch-is _ _ _ (sym c.is_batch.ensures ∙ c.if-not-is_batch.false))) in
+    ap (checked 0) c.put_outcomes.ensures ∙ sym (is_all _ _ _ (batch-is _ _ _ (sym c.is_batch.ensures ∙ c.if-not-is_batch.false))) in
     record { outcomes_after = e; batch_says = promised a.recipes.now a.lengths.now a.outcomes.now (λ i. omega (arith, c.type_inv.lengths i)) _ e }

@@ -14,18 +14,11 @@ returns-then-lengths-ne0 c = sym (no_batch_lem _ _ _ (λ h. c.if-lengths-ne0.tru
 pub returns-then-n-gt64 : goal.returns-then-n-gt64
 returns-then-n-gt64 c = sym (no_batch_lem _ _ _ (λ h. absurd (omega (arith, h.few))))
 
-pub total-requires : goal.total-requires
-total-requires c = search rules
-
 pub returns-then-total-size : goal.returns-then-total-size
 returns-then-total-size c = sym (no_batch_lem _ _ _ (λ h. c.if-total-size.true (c.total.ensures ∙ h.adds_up)))
-
-pub overflow_mul-result : goal.overflow_mul-result
-overflow_mul-result c = search rules
 
 pub returns : goal.returns
 unfolding is_batch
 returns c =
-
     let l = c.args.lengths.now in
     rw (eq-eqb (length l % 4) 0 (omega arith), le-leb (count l) 64 (omega arith), eq-eqb (total (count l) l) c.args.size (sym c.total.ensures ∙ c.if-total-size.false)) refl

@@ -28,8 +28,7 @@ pub overflow_cast-len : goal.overflow_cast-len
 overflow_cast-len c = omega arith
 
 pub part-requires : goal.part-requires
-part-requires c =     let l = c.loop-i in
-
+part-requires c = let l = c.loop-i in
     part-ends _ c.args.lengths.now _ l.i l.at c.word_at-len.result c.requires (omega arith) l.invariant.1 c.word_at-len.ensures
 
 pub overflow_mul-i-in-loop-i-2 : goal.overflow_mul-i-in-loop-i-2
@@ -41,7 +40,6 @@ put_outcome-requires c = omega arith
 pub overflow_add-at : goal.overflow_add-at
 overflow_add-at c =
     let l = c.loop-i in
-
     omega (arith, part-ends _ c.args.lengths.now _ l.i l.at c.word_at-len.result c.requires (omega arith) l.invariant.1 c.word_at-len.ensures)
 
 pub overflow_add-i : goal.overflow_add-i
@@ -50,7 +48,6 @@ overflow_add-i c = omega arith
 pub returns : goal.returns
 unfolding outcomes_of
 returns c =
-
     let e : c.loop-i.i ≡ count c.args.lengths.now = omega (arith, c.requires.whole) in
     sym (take_all (8 * count c.args.lengths.now) c.loop-i.out (omega arith)) ∙ (rw e at c.loop-i.invariant.3)
 
@@ -65,7 +62,7 @@ loop-i-preserved c =
     let a = c.args in
     let recipe = recipe_is a.recipes.now a.lengths.now l.i l.at c.word_at-len.result c.part.result.now l.invariant.1 c.word_at-len.ensures c.part.ensures in
     let e : q ≡ sets l.out (8 * l.i) (outcome_bytes (recipe_at a.recipes.now a.lengths.now l.i)) =
-      c.put_outcome.ensures ∙ ap (λ (t : List ℕ). sets l.out (8 * l.i) (outcome_bytes t)) recipe in
+    c.put_outcome.ensures ∙ ap (λ (t : List ℕ). sets l.out (8 * l.i) (outcome_bytes t)) recipe in
     let n = length-sets l.out (8 * l.i) (outcome_bytes (recipe_at a.recipes.now a.lengths.now l.i)) in (
       omega arith,
       rw add-one (ap₂ (λ (x y : ℕ). x + y) l.invariant.1 c.word_at-len.ensures),

@@ -29,11 +29,10 @@ loop-i-smaller c = omega arith
 
 pub loop-i-preserved : goal.loop-i-preserved
 unfolding B.total
-loop-i-preserved c =     let l = c.loop-i in
+loop-i-preserved c = let l = c.loop-i in
     (omega arith, omega arith, rw add-one (ap₂ (λ (n m : ℕ). n + m) l.invariant.2 c.word_at.ensures))
 
 pub returns : goal.returns
 returns c =
-
     let e : c.loop-i.i ≡ c.args.n = omega arith in
     c.loop-i.invariant.2 ∙ ap (λ (k : ℕ). B.total k c.args.lengths.now) e

@@ -76,5 +76,5 @@ link_statement-returns t c =
     let a = c.args in
     let e = test c.requires.0 c.requires.1 (λ h. omega (arith, c.if-kind-lt4.false)) (λ h. omega (arith, c.if-kind-gt5.false)) in
     let f : c.body_follow-follow.result ≡ body_follow (kind_of a.part.now) a.at a.then =
-      c.body_follow-follow.ensures ∙ ap (λ (own : ℕ). body_follow (kind_of a.part.now) own a.then) c.place.ensures in
+    c.body_follow-follow.ensures ∙ ap (λ (own : ℕ). body_follow (kind_of a.part.now) own a.then) c.place.ensures in
     rw (c.link_body.ensures, c.beyond.ensures, c.span_of.ensures.0, c.enclosed-test.ensures, f) (sym (e.links a.then a.next.now))

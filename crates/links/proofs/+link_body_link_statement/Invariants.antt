@@ -19,7 +19,7 @@ abbrev pub decreases-link_statement : goal.decreases-link_statement
 decreases-link_statement l = 2 * l.left
 
 abbrev pub invariant-link_body-loop-rest : goal.invariant-link_body-loop-rest
-invariant-link_body-loop-rest l =     BodySpelt l.here l.left l.rest × (linked (points_b (body_of l.part) l.at l.follow) l.at l.initial.next ≡ linked (points_b (body_of l.rest) l.here l.follow) l.here l.next)
+invariant-link_body-loop-rest l = BodySpelt l.here l.left l.rest × (linked (points_b (body_of l.part) l.at l.follow) l.at l.initial.next ≡ linked (points_b (body_of l.rest) l.here l.follow) l.here l.next)
 
 abbrev pub decreases-link_body-loop-rest : goal.decreases-link_body-loop-rest
 decreases-link_body-loop-rest l = length l.rest

@@ -11,7 +11,7 @@ use Rattle.links.proofs.Procedures.{Left, left_all, left_none, Turn, turn}
 use Rattle.links.proofs.links.Given as goal
 
 abbrev pub invariant-loop-rest : goal.invariant-loop-rest
-invariant-loop-rest l =     Left (linked (points_r (recipe_of l.table) 0 nowhere) 0 l.initial.next) (started (recipe_of l.table) l.initial.starts) l.at l.number l.rest l.next l.starts
+invariant-loop-rest l = Left (linked (points_r (recipe_of l.table) 0 nowhere) 0 l.initial.next) (started (recipe_of l.table) l.initial.starts) l.at l.number l.rest l.next l.starts
 
 abbrev pub decreases-loop-rest : goal.decreases-loop-rest
 decreases-loop-rest l = length l.rest

@@ -9,30 +9,12 @@ use borrow.Author.Tests.{eq-eqb, ne_eqb}
 use Rattle.rules.specs.Table.{span_of}
 use Rattle.links.proofs.place_after.Goals as goal
 
-pub span_of-span-requires : goal.span_of-span-requires
-span_of-span-requires c = search rules
-
-pub overflow_add-at : goal.overflow_add-at
-overflow_add-at c = search rules
-
-pub overflow_add-at-2 : goal.overflow_add-at-2
-overflow_add-at-2 c = search rules
-
-pub place-behind-requires : goal.place-behind-requires
-place-behind-requires c = search rules
-
-pub overflow_mul-span : goal.overflow_mul-span
-overflow_mul-span c = search rules
-
-pub overflow_add-span : goal.overflow_add-span
-overflow_add-span c = search rules
-
 pub returns-then-part-span : goal.returns-then-part-span
-returns-then-part-span c =     let p = c.args.part.now in
+returns-then-part-span c = let p = c.args.part.now in
     let e : length p ≡ 8 + 8 * span_of p = omega (arith, c.if-part-span.true, c.span_of-span.ensures.0) in
     rw (eq-eqb (length p) (8 + 8 * span_of p) e)
 
 pub returns : goal.returns
-returns c =     let p = c.args.part.now in
+returns c = let p = c.args.part.now in
     let e : ¬ (length p ≡ 8 + 8 * span_of p) = λ h. c.if-part-span.false (omega (arith, c.span_of-span.ensures.0)) in
     rw (ne_eqb (length p) (8 + 8 * span_of p) e) (omega (arith, c.place-behind.ensures, c.span_of-span.ensures.0))

@@ -8,28 +8,13 @@ use Rattle.table.proofs.Rows.{is-test, at_statements, at_test, at_none}
 use borrow.Author.Rules.{rules}
 use Rattle.table.proofs.check.body_at.Goals as goal
 
-pub encloses-code-requires : goal.encloses-code-requires
-encloses-code-requires c = search rules
-
-pub overflow_add-result : goal.overflow_add-result
-overflow_add-result c = search rules
-
 pub returns-then-code-eq1 : goal.returns-then-code-eq1
 returns-then-code-eq1 c = at_statements (enclosing c.args.part.now) c.args.part.now c.args.at (sym c.encloses-code.ensures ∙ c.if-code-eq1.true)
-
-pub overflow_add-result-then-code-eq3 : goal.overflow_add-result-then-code-eq3
-overflow_add-result-then-code-eq3 c = search rules
-
-pub enclosed-requires : goal.enclosed-requires
-enclosed-requires c = search rules
 
 pub span_of-requires : goal.span_of-requires
 span_of-requires c =
     let w = c.requires.1.tested (is-test (enclosing c.args.part.now) (sym c.encloses-code.ensures ∙ c.if-code-eq3.true)) in
     rw c.enclosed.ensures (omega arith)
-
-pub overflow_add-result-then-code-eq3-2 : goal.overflow_add-result-then-code-eq3-2
-overflow_add-result-then-code-eq3-2 c = search rules
 
 pub returns-then-code-eq3 : goal.returns-then-code-eq3
 returns-then-code-eq3 c =

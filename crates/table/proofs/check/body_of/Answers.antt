@@ -5,17 +5,8 @@ use Rattle.table.proofs.Rows.{is-test, body-statements, body-test, no_body}
 use borrow.Author.Rules.{rules}
 use Rattle.table.proofs.check.body_of.Goals as goal
 
-pub encloses-code-requires : goal.encloses-code-requires
-encloses-code-requires c = search rules
-
-pub enclosed-requires : goal.enclosed-requires
-enclosed-requires c = search rules
-
 pub returns-then-code-eq1 : goal.returns-then-code-eq1
 returns-then-code-eq1 c = let p = c.args.part.now in c.enclosed.ensures ∙ body-statements (enclosing p) p (sym c.encloses-code.ensures ∙ c.if-code-eq1.true)
-
-pub enclosed-requires-then-code-eq3 : goal.enclosed-requires-then-code-eq3
-enclosed-requires-then-code-eq3 c = search rules
 
 pub beyond-requires : goal.beyond-requires
 beyond-requires c =
@@ -23,15 +14,6 @@ beyond-requires c =
 
 pub returns-then-code-eq3 : goal.returns-then-code-eq3
 returns-then-code-eq3 c = let p = c.args.part.now in c.beyond.ensures ∙ ap after c.enclosed-then-code-eq3.ensures ∙ body-test (enclosing p) p (sym c.encloses-code.ensures ∙ c.if-code-eq3.true)
-
-pub slice_bounds-result-count : goal.slice_bounds-result-count
-slice_bounds-result-count c = search rules
-
-pub slice_bounds-result-start : goal.slice_bounds-result-start
-slice_bounds-result-start c = search rules
-
-pub slice_bounds-result-end : goal.slice_bounds-result-end
-slice_bounds-result-end c = search rules
 
 pub returns : goal.returns
 returns c = let p = c.args.part.now in no_body (enclosing p) p (λ e. c.if-code-eq1.false (c.encloses-code.ensures ∙ e)) (λ e. c.if-code-eq3.false (c.encloses-code.ensures ∙ e))

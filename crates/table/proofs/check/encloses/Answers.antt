@@ -7,14 +7,5 @@ use Rattle.table.proofs.Columns.{code}
 use borrow.Author.Rules.{rules}
 use Rattle.table.proofs.check.encloses.Goals as goal
 
-pub bounds-part-0 : goal.bounds-part-0
-bounds-part-0 c = search rules
-
-pub wide-requires : goal.wide-requires
-wide-requires c = search rules
-
-pub code-requires : goal.code-requires
-code-requires c = search rules
-
 pub returns : goal.returns
 returns c = c.code.ensures ∙ ap (λ (k : ℕ). get_or codes k 0) c.wide.ensures.0 ∙ code (kind_of c.args.part.now)

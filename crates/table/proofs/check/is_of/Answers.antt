@@ -1,12 +1,6 @@
 use borrow.Author.Rules.{rules}
 use Rattle.table.proofs.check.is_of.Goals as goal
 
-pub is_statement-requires : goal.is_statement-requires
-is_statement-requires c = search rules
-
-pub between-requires : goal.between-requires
-between-requires c = search rules
-
 pub returns-in-Procedure : goal.returns-in-Procedure
 returns-in-Procedure c = rw c.in-Procedure.is
 

@@ -2,9 +2,6 @@ use mathlib.Core.Path.{refl, sym, ◌∙◌}
 use borrow.Author.Rules.{rules}
 use Rattle.table.proofs.check.is_statement.Goals as goal
 
-pub between-requires : goal.between-requires
-between-requires c = search rules
-
 pub returns-then-between : goal.returns-then-between
 returns-then-between c = rw (sym c.between.ensures ∙ c.if-between.true) refl
 

@@ -6,8 +6,5 @@ use Rattle.table.proofs.check.magnitude.Goals as goal
 pub returns-then-word-lt2147483648 : goal.returns-then-word-lt2147483648
 returns-then-word-lt2147483648 c = magnitude_low c.args.word c.if-word-lt2147483648.true
 
-pub overflow_sub-result : goal.overflow_sub-result
-overflow_sub-result c = search rules
-
 pub returns : goal.returns
 returns c = magnitude_high c.args.word (omega arith) c.if-word-lt2147483648.false

@@ -6,8 +6,5 @@ use Rattle.table.proofs.Columns.{elsewhere}
 use borrow.Author.Rules.{rules}
 use Rattle.table.proofs.check.name_least.Goals as goal
 
-pub returns-then-kind-eq6 : goal.returns-then-kind-eq6
-returns-then-kind-eq6 c = search rules
-
 pub returns : goal.returns
 returns c = sym (elsewhere name_leasts (6 ∷ []) 14 refl _ c.requires (rw (ne_eqb _ _ c.if-kind-eq6.false) refl))

@@ -7,17 +7,8 @@ use borrow.Author.Tests.{ne_eqb, eq-eqb}
 use borrow.Author.Rules.{rules}
 use Rattle.table.proofs.check.names_none.Goals as goal
 
-pub bounds-part-0 : goal.bounds-part-0
-bounds-part-0 c = search rules
-
 pub returns-then-part-ne6 : goal.returns-then-part-ne6
 returns-then-part-ne6 c = rw (ne_eqb _ 6 c.if-part-ne6.true) refl
-
-pub word_of-requires : goal.word_of-requires
-word_of-requires c = search rules
-
-pub magnitude-requires : goal.magnitude-requires
-magnitude-requires c = search rules
 
 pub returns : goal.returns
 returns c = rw (eq-eqb _ 6 c.if-part-ne6.false) (ap (leb _) (c.magnitude.ensures ∙ ap (λ (w : ℕ). nat_abs (signed w)) c.word_of.ensures.0))

@@ -6,11 +6,5 @@ use Rattle.table.proofs.Columns.{elsewhere}
 use borrow.Author.Rules.{rules}
 use Rattle.table.proofs.check.value_most.Goals as goal
 
-pub returns-then-kind-eq6 : goal.returns-then-kind-eq6
-returns-then-kind-eq6 c = search rules
-
-pub returns-then-kind-eq9 : goal.returns-then-kind-eq9
-returns-then-kind-eq9 c = search rules
-
 pub returns : goal.returns
 returns c = sym (elsewhere value_mosts (6 ∷ 9 ∷ []) 14 refl _ c.requires (rw (ne_eqb _ _ c.if-kind-eq6.false, ne_eqb _ _ c.if-kind-eq9.false) refl))
