@@ -72,3 +72,18 @@ pub returns-in-6 : goal.returns-in-6
 unfolding apply2
 returns-in-6 c = let s = c.ranges in rw c.in-6.is (ap some (applied2 (λ x y. flag (truth x && truth y)) s.a s.b c.both.type_inv c.both.ensures))
 
+pub returns-in_default : goal.returns-in_default
+unfolding apply2
+returns-in_default c =
+    let s = c.ranges in
+    let n = c.in_default.in_default-own.rest in
+    rw (
+      ne_eqb _ _ n.0.0.0.0.0.0.1,
+      ne_eqb _ _ n.0.0.0.0.0.1,
+      ne_eqb _ _ n.0.0.0.0.1,
+      ne_eqb _ _ n.0.0.0.1,
+      ne_eqb _ _ n.0.0.1,
+      ne_eqb _ _ n.0.1,
+      ne_eqb _ _ n.1,
+    )
+    (ap some (applied2 (λ x y. flag (truth x || truth y)) s.a s.b c.either.type_inv c.either.ensures))
