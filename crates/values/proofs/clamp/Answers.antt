@@ -1,4 +1,3 @@
-use mathlib.Core.Path.{◌∙◌}
 use mir.Facts.{to_z-of_z}
 use Rattle.values.proofs.Range as range
 use Rattle.values.proofs.clamp.Goals as goal

@@ -14,7 +14,7 @@ pub overflow_cast-b : goal.overflow_cast-b
 overflow_cast-b c = widens c.ranges.b
 
 pub nonzero_div-a : goal.nonzero_div-a
-nonzero_div-a c =     let s = c.ranges in
+nonzero_div-a c = let s = c.ranges in
     (rw (to_z-of_z s.b) (above_zero _ s.b c.requires), (exact_quotient s.a s.b).fits)
 
 pub clamp-requires : goal.clamp-requires
@@ -22,5 +22,5 @@ clamp-requires c = search rules
 
 pub returns : goal.returns
 unfolding quotient
-returns c =     let s = c.ranges in
+returns c = let s = c.ranges in
     rw c.requires (ap some (clamped (exact_quotient s.a s.b) c.clamp.type_inv c.clamp.ensures))
