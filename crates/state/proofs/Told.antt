@@ -1,15 +1,15 @@
 -- What a value of type State or Task is told to be: its arrays' lengths and its numbers' ranges.
 -- Assumes nothing.
 use Prim.Native.Nat.{ℕ, zero, suc, ◌<◌}
-use mathlib.Core.Path.{◌≡◌, sym, ◌∙◌}
-use mathlib.Core.List.{List, [], ◌∷◌, map}
+use mathlib.Core.Path.{◌≡◌}
+use mathlib.Core.List.{List, [], ◌∷◌}
 use native.Mathlib.Omega.{arith}
-use lib.ListN.{length, get_or, length-map}
+use lib.ListN.{length, get_or}
 use mir.Val.{Val}
 use denote.Shadow.{shadow}
 use denote.Array.{each}
 use denote.Laws.{Is}
-use denote.Struct.Field.{u64-field}
+use denote.Builtin.{u64}
 use denote.Struct.Declared.{row}
 use Rattle.rules.proofs.Numbers.{mag_range}
 use Rattle.rules.proofs.Blocks.Write.{Held}
@@ -20,7 +20,7 @@ use Rattle.state.specs.contracts.Task as task
 use Rattle.state.specs.contracts.State as state
 
 -- every number of an array of 64 bits fits, and so does what stands behind its end
-each_fits : (xs : List ℕ) (us : List Val) → shadow (each u64-field.row.Denot u64-field.row.own_val (map u64-field.into xs) us)
+each_fits : (xs : List ℕ) (us : List Val) → shadow (each u64.Denot u64.own_val xs us)
     → (i : ℕ) → get_or xs i 0 < 18446744073709551616
 each_fits [] us h i = omega arith
 each_fits (x ∷ xs) [] h i = absurd h
@@ -40,7 +40,7 @@ module _ (s : State) (vs : List Val) (h : Is (row state.the_type) s vs) where
   current_held = held s.current _ h.1.1.1.1.0
 
   pub queue-length : length s.queue ≡ 32
-  queue-length = sym (length-map s.queue _) ∙ h.1.1.1.1.1.1.1.0.1.0.1
+  queue-length = h.1.1.1.1.1.1.1.0.1.0.1
 
   pub queued-fits : (i : ℕ) → get_or s.queue i 0 < 18446744073709551616
   queued-fits = each_fits s.queue _ h.1.1.1.1.1.1.1.0.1.1

@@ -9,7 +9,6 @@ use native.Mathlib.Omega.{arith}
 use lib.IntN.{ℤ}
 use lib.ListN.{length}
 use mir.Facts.{to_z-of_z}
-use borrow.Author.Rules.{rules}
 use Rattle.rules.specs.Values.{is_zero, quotient, apply1, apply2}
 use Rattle.rules.specs.Recipe.{value}
 use Rattle.rules.specs.Table.{name_of, expr_of}
@@ -28,29 +27,10 @@ pub operand-returns-then-part-lt11 : goal.operand-returns-then-part-lt11
 operand-returns-then-part-lt11 t c =
     ap some (result32 c.leaf.type_inv) ∙ (rw (to_z-of_z c.ranges.parameter) at c.leaf.ensures)
 
-pub operand-enum_known-v : goal.operand-enum_known-v
-operand-enum_known-v t c = search rules
-
-pub operand-enum_told-1 : goal.operand-enum_told-1
-operand-enum_told-1 t c = search rules
-
 pub operand-returns-in_default : goal.operand-returns-in_default
 operand-returns-in_default t c =
 
     ap evaluated (sym c.in_default.is) ∙ (rw (to_z-of_z c.ranges.parameter) at c.operator.ensures)
 
-pub operator-enum_known-a : goal.operator-enum_known-a
-operator-enum_known-a t c = search rules
-
-pub operator-enum_told-1 : goal.operator-enum_told-1
-operator-enum_told-1 t c = search rules
-
 pub operator-apply1-requires : goal.operator-apply1-requires
 operator-apply1-requires t c = tt
-
-pub operator-enum_known-b : goal.operator-enum_known-b
-operator-enum_known-b t c = search rules
-
-pub operator-enum_told-in_default-operand : goal.operator-enum_told-in_default-operand
-operator-enum_told-in_default-operand t c = search rules
-

@@ -2,7 +2,6 @@ use mathlib.Core.Path.{sym, ap, ◌∙◌}
 use mathlib.Core.Option.{some}
 use native.Mathlib.Omega.{arith}
 use mir.Facts.{to_z-of_z}
-use borrow.Author.Rules.{rules}
 use Rattle.values.proofs.Exact.{result32}
 use Rattle.expr.specs.Evaluated.{evaluated}
 use Rattle.expr.proofs.Reading.{whole}
@@ -13,12 +12,6 @@ bounds-part-0 c = omega (arith, whole c.requires)
 
 pub operator-requires : goal.operator-requires
 operator-requires c = (c.requires, omega (arith, c.if-part-ge11.true))
-
-pub enum_known-v : goal.enum_known-v
-enum_known-v c = search rules
-
-pub enum_told-1 : goal.enum_told-1
-enum_told-1 c = search rules
 
 pub returns-in_default : goal.returns-in_default
 returns-in_default c =

@@ -4,7 +4,6 @@ use native.Mathlib.Omega.{arith}
 use mir.Facts.{to_z-of_z}
 use Rattle.values.proofs.Exact.{result32}
 use Rattle.expr.proofs.Reading.{whole, holds, value-constant, value-variable}
-use borrow.Author.Rules.{rules}
 use Rattle.expr.proofs.leaf.Goals as goal
 
 pub bounds-part-0 : goal.bounds-part-0
@@ -12,9 +11,6 @@ bounds-part-0 c = omega (arith, whole c.requires.0)
 
 pub word_of-requires : goal.word_of-requires
 word_of-requires c = omega (arith, whole c.requires.0)
-
-pub signed-requires : goal.signed-requires
-signed-requires c = search rules
 
 pub returns-then-part-eq9 : goal.returns-then-part-eq9
 returns-then-part-eq9 c =

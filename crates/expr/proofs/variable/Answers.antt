@@ -1,4 +1,3 @@
-use borrow.Author.Rules.{rules}
 use borrow.Author.Tests.{eq-eqb, ne_eqb}
 use mir.Facts.{to_z-of_z}
 use Rattle.rules.specs.Recipe.{read}
@@ -8,12 +7,6 @@ use Rattle.expr.proofs.variable.Goals as goal
 pub returns-then-name-eq64 : goal.returns-then-name-eq64
 unfolding read
 returns-then-name-eq64 c = rw (eq-eqb _ _ c.if-name-eq64.true) (to_z-of_z c.ranges.parameter)
-
-pub offset_bounds-variables-i : goal.offset_bounds-variables-i
-offset_bounds-variables-i c = search rules
-
-pub bounds-variables-i : goal.bounds-variables-i
-bounds-variables-i c = search rules
 
 pub returns : goal.returns
 unfolding read

@@ -3,7 +3,6 @@ use mathlib.Core.Path.{◌≡◌, ap, ◌∙◌}
 use native.Mathlib.Omega.{arith}
 use lib.ListN.{length}
 use borrow.Author.Tests.{eq-eqb, ne_eqb}
-use borrow.Author.Rules.{rules}
 use Rattle.rules.specs.Table.{span_of, inner}
 use Rattle.expr.proofs.Reading.{whole}
 use Rattle.moves.proofs.Parts.{spelt-inner, body-some, body_none}
@@ -17,25 +16,3 @@ enclosed-requires c = c.requires.0.part.stands.whole
 
 pub span_of-span-requires : goal.span_of-span-requires
 span_of-span-requires c = let l = whole (spelt-inner c.requires.0) in omega (arith, ap length c.enclosed.ensures)
-
-pub overflow_add-first : goal.overflow_add-first
-overflow_add-first c = search rules
-
-pub overflow_add-first-2 : goal.overflow_add-first-2
-overflow_add-first-2 c = search rules
-
-pub overflow_add-span : goal.overflow_add-span
-overflow_add-span c = search rules
-
-pub span_of-requires : goal.span_of-requires
-span_of-requires c = search rules
-
-pub overflow_cast-result : goal.overflow_cast-result
-overflow_cast-result c = search rules
-
-pub bounds-part-0 : goal.bounds-part-0
-bounds-part-0 c = search rules
-
-pub overflow_cast-result-2 : goal.overflow_cast-result-2
-overflow_cast-result-2 c = search rules
-

@@ -3,7 +3,6 @@ use mathlib.Core.List.{List}
 use mathlib.Core.Path.{sym, ap, ◌∙◌, subst⁻¹}
 use native.Mathlib.Omega.{arith}
 use lib.ListN.{get_or}
-use borrow.Author.Rules.{rules}
 use Rattle.rules.specs.Table.{recipe_of}
 use Rattle.rules.specs.Places.{Point, start}
 use Rattle.rules.specs.Standing.{point_at}
@@ -13,21 +12,6 @@ use Rattle.ready.proofs.There.{Place, end-there, few-there}
 use Rattle.moves.proofs.Standing.{stop-there, part-there, span-there, from-two, some-place, leads-there, begins_there}
 use Rattle.moves.proofs.Acting.{end-moves}
 use Rattle.moves.proofs.move_of.Goals as goal
-
-pub overflow_cast-place : goal.overflow_cast-place
-overflow_cast-place c = search rules
-
-pub overflow_mul-off : goal.overflow_mul-off
-overflow_mul-off c = search rules
-
-pub bounds-table-off : goal.bounds-table-off
-bounds-table-off c = search rules
-
-pub from-requires : goal.from-requires
-from-requires c = search rules
-
-pub offset_bounds-next-place : goal.offset_bounds-next-place
-offset_bounds-next-place c = search rules
 
 pub statement-requires : goal.statement-requires
 statement-requires c =

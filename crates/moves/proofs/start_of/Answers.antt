@@ -2,18 +2,8 @@ use Prim.Native.Nat.{ℕ}
 use mathlib.Core.Path.{ap, ◌∙◌}
 use native.Mathlib.Omega.{arith}
 use lib.ListN.{get_or}
-use borrow.Author.Rules.{rules}
 use Rattle.moves.proofs.Parts.{procedure-is, procedure-small}
 use Rattle.moves.proofs.start_of.Goals as goal
-
-pub word_of-procedure-requires : goal.word_of-procedure-requires
-word_of-procedure-requires c = search rules
-
-pub overflow_cast-procedure : goal.overflow_cast-procedure
-overflow_cast-procedure c = search rules
-
-pub offset_bounds-starts-procedure : goal.offset_bounds-starts-procedure
-offset_bounds-starts-procedure c = search rules
 
 pub bounds-starts-procedure : goal.bounds-starts-procedure
 bounds-starts-procedure c =     let g = c.requires in

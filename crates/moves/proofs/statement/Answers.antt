@@ -8,7 +8,6 @@ use lib.IntN.{ℤ}
 use lib.Signed.{mag}
 use mir.Syntax.{w32}
 use mir.Val.{to_z, of_z}
-use borrow.Author.Rules.{rules}
 use Rattle.rules.specs.Recipe.{read, value}
 use Rattle.rules.specs.Table.{kind_of, name_of, inner, expr_of}
 use Rattle.values.proofs.Exact.{fits32, result32, applied1}
@@ -23,51 +22,15 @@ use Rattle.moves.proofs.statement.Goals as goal
 
 module _ (s : goal.Start) {r : Evaluated} (f : mag s.args.t.parameter < 2147483648) (e : evaluated r ≡ valued s (to_z w32 (of_z w32 s.args.t.parameter))) where
 
-pub bounds-part-0 : goal.bounds-part-0
-bounds-part-0 c = search rules
-
-pub bounds-part-1 : goal.bounds-part-1
-bounds-part-1 c = search rules
-
-pub value_of-requires : goal.value_of-requires
-value_of-requires c = search rules
-
-pub enum_known-v : goal.enum_known-v
-enum_known-v c = search rules
-
-pub enum_told-1 : goal.enum_told-1
-enum_told-1 c = search rules
-
     let a = c.args in
     let is = none_there c.before.before.before.before.before.before.before.before c.type_inv.t.1.1.0.1 c.value_of.ensures c.in_default-value_of.is in
     let h = c.in-3.is in
     λ begin b. lacks-moves begin _ (task_of a.t) a.part.now a.place a.follow (omega arith) (omega arith) is
 
-pub value_of-requires-in-6 : goal.value_of-requires-in-6
-value_of-requires-in-6 c = search rules
-
-pub enum_known-v-in-Value-value_of-2 : goal.enum_known-v-in-Value-value_of-2
-enum_known-v-in-Value-value_of-2 c = search rules
-
-pub enum_told-in_default-value_of-2 : goal.enum_told-in_default-value_of-2
-enum_told-in_default-value_of-2 c = search rules
-
     let a = c.args in
     let is = none_there c.before.before.before.before.before.before.before.before c.type_inv.t.1.1.0.1 c.value_of-in-6.ensures c.in_default-value_of-2.is in
     let h = c.in-6.is in
     λ begin b. lacks-moves begin _ (task_of a.t) a.part.now a.place a.follow (omega arith) (omega arith) is
-
-pub start_of-start-requires : goal.start_of-start-requires
-start_of-start-requires c = search rules
-
-pub variable-requires : goal.variable-requires
-variable-requires c = search rules
-
-pub enum_known-v-in-Value-value_of-3 : goal.enum_known-v-in-Value-value_of-3
-enum_known-v-in-Value-value_of-3 c = search rules
-
-pub enum_told-in_default-value_of-3 : goal.enum_told-in_default-value_of-3
-enum_told-in_default-value_of-3 c = search rules
 
     let a = c.args in
     let is = none_there c.before.before.before.before.before.before.before.before c.type_inv.t.1.1.0.1 c.value_of-in_default.ensures c.in_default-value_of-3.is in

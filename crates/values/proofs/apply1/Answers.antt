@@ -1,14 +1,7 @@
-use borrow.Author.Rules.{rules}
 use borrow.Author.Tests.{ne_eqb}
 use Rattle.rules.specs.Values.{apply1}
 use Rattle.values.proofs.Exact.{applied1}
 use Rattle.values.proofs.apply1.Goals as goal
-
-pub negation-requires : goal.negation-requires
-negation-requires c = search rules
-
-pub opposite-requires : goal.opposite-requires
-opposite-requires c = search rules
 
 pub returns-then-op-eq0 : goal.returns-then-op-eq0
 unfolding apply1

@@ -4,7 +4,6 @@ use mathlib.Core.Option.{none, some}
 use lib.IntN.{ℤ, ◌+ℤ◌, ◌-ℤ◌, ◌*ℤ◌}
 use lib.Signed.{lt_z, quot_z}
 use mir.Facts.{to_z-of_z}
-use borrow.Author.Rules.{rules}
 use borrow.Author.Tests.{ne_eqb}
 use Rattle.rules.specs.Values.{clamp, is_zero, quotient, equal, truth, flag, apply2}
 use Rattle.values.proofs.Exact.{applied2, found2}
@@ -19,30 +18,9 @@ no_zero a b h = go (is_zero b) h
     go true h = absurd (h refl)
     go false h = refl
 
-pub sum-requires : goal.sum-requires
-sum-requires c = search rules
-
-pub difference-requires : goal.difference-requires
-difference-requires c = search rules
-
-pub product-requires : goal.product-requires
-product-requires c = search rules
-
 pub quotient-requires : goal.quotient-requires
 quotient-requires c =
     rw (to_z-of_z c.ranges.b) (no_zero c.args.a c.args.b (rw c.in-3.is at c.requires))
-
-pub less-requires : goal.less-requires
-less-requires c = search rules
-
-pub equal-requires : goal.equal-requires
-equal-requires c = search rules
-
-pub both-requires : goal.both-requires
-both-requires c = search rules
-
-pub either-requires : goal.either-requires
-either-requires c = search rules
 
 pub returns-in-0 : goal.returns-in-0
 unfolding apply2

@@ -1,4 +1,3 @@
-use borrow.Author.Rules.{rules}
 use Rattle.values.proofs.Exact.{widens, exact_difference, clamped}
 use Rattle.values.proofs.difference.Goals as goal
 
@@ -10,9 +9,6 @@ overflow_cast-b c = widens c.ranges.b
 
 pub overflow_sub-a : goal.overflow_sub-a
 overflow_sub-a c = (exact_difference c.ranges.a c.ranges.b).fits
-
-pub clamp-requires : goal.clamp-requires
-clamp-requires c = search rules
 
 pub returns : goal.returns
 returns c = clamped (exact_difference c.ranges.a c.ranges.b) c.clamp.type_inv c.clamp.ensures

@@ -1,4 +1,3 @@
-use borrow.Author.Rules.{rules}
 use Rattle.values.proofs.Exact.{widens, exact_negation, clamped}
 use Rattle.values.proofs.negation.Goals as goal
 
@@ -7,9 +6,6 @@ overflow_cast-a c = widens c.ranges.a
 
 pub overflow_sub-a : goal.overflow_sub-a
 overflow_sub-a c = (exact_negation c.ranges.a).fits
-
-pub clamp-requires : goal.clamp-requires
-clamp-requires c = search rules
 
 pub returns : goal.returns
 returns c = clamped (exact_negation c.ranges.a) c.clamp.type_inv c.clamp.ensures

@@ -1,4 +1,3 @@
-use borrow.Author.Rules.{rules}
 use Rattle.values.proofs.Exact.{widens, exact_product, clamped}
 use Rattle.values.proofs.product.Goals as goal
 
@@ -10,9 +9,6 @@ overflow_cast-b c = widens c.ranges.b
 
 pub overflow_mul-a : goal.overflow_mul-a
 overflow_mul-a c = (exact_product c.ranges.a c.ranges.b).fits
-
-pub clamp-requires : goal.clamp-requires
-clamp-requires c = search rules
 
 pub returns : goal.returns
 returns c = clamped (exact_product c.ranges.a c.ranges.b) c.clamp.type_inv c.clamp.ensures

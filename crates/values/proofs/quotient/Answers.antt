@@ -1,6 +1,5 @@
 use mathlib.Core.Path.{ap}
 use mathlib.Core.Option.{some}
-use borrow.Author.Rules.{rules}
 use mir.Facts.{to_z-of_z}
 use Rattle.rules.specs.Values.{quotient}
 use Rattle.values.proofs.Exact.{widens, exact_quotient, clamped}
@@ -16,9 +15,6 @@ overflow_cast-b c = widens c.ranges.b
 pub nonzero_div-a : goal.nonzero_div-a
 nonzero_div-a c = let s = c.ranges in
     (rw (to_z-of_z s.b) (above_zero _ s.b c.requires), (exact_quotient s.a s.b).fits)
-
-pub clamp-requires : goal.clamp-requires
-clamp-requires c = search rules
 
 pub returns : goal.returns
 unfolding quotient

@@ -3,15 +3,10 @@ use native.Mathlib.Omega.{arith}
 use Rattle.state.specs.View.{task_of}
 use Rattle.state.proofs.Told.{current_held, queue-length}
 use Rattle.state.proofs.Ring.{joins_task}
-use borrow.Author.Rules.{rules}
 use Rattle.state.proofs.State.put_back.Goals as goal
 
-pub overflow_add-front : goal.overflow_add-front
-overflow_add-front c = search rules
-
-pub pack-requires : goal.pack-requires
-pack-requires c = search rules
-
+pub returns : goal.returns
+returns c =
     let s = c.args.self in
     let g = c.well_formed.0 in
     let few : s.queued + 1 ≤ 32 = rw c.requires.1 at c.requires.0.few in

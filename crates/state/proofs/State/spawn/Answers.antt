@@ -11,18 +11,10 @@ use Rattle.rules.proofs.Blocks.Write.{Held}
 use Rattle.state.specs.View.{packed}
 use Rattle.state.proofs.Told.{queue-length}
 use Rattle.state.proofs.Ring.{joins_task}
-use borrow.Author.Rules.{rules}
 use Rattle.state.proofs.State.spawn.Goals as goal
 
-pub overflow_add-number : goal.overflow_add-number
-overflow_add-number c = search rules
-
-pub overflow_add-front : goal.overflow_add-front
-overflow_add-front c = search rules
-
-pub pack-requires : goal.pack-requires
-pack-requires c = search rules
-
+pub returns : goal.returns
+returns c =
     let s = c.args.self in
     let z = c.args.argument in
     let few : s.queued + 1 + is s.active ≤ 32 = rw c.requires.1 (omega arith) in

@@ -1,13 +1,6 @@
 use native.Mathlib.Omega.{arith}
 use Rattle.state.proofs.Ring.{front_rest}
-use borrow.Author.Rules.{rules}
 use Rattle.state.proofs.State.take_up.Goals as goal
-
-pub overflow_add-result : goal.overflow_add-result
-overflow_add-result c = search rules
-
-pub overflow_sub-result : goal.overflow_sub-result
-overflow_sub-result c = search rules
 
 pub returns : goal.returns
 returns c =
