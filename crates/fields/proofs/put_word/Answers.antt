@@ -14,7 +14,7 @@ pub bounds-b-at-4 : goal.bounds-b-at-4
 bounds-b-at-4 c = simp length-set (omega arith)
 
 pub returns : goal.returns
-returns c =     let a = c.args.at in
+returns c = let a = c.args.at in
     let e1 : a + 1 ≡ suc a = omega arith in
     let e2 : a + 2 ≡ suc (suc a) = omega arith in
     let e3 : a + 3 ≡ suc (suc (suc a)) = omega arith in

@@ -1,13 +1,11 @@
-use Prim.Native.Nat.{ℕ, suc, ◌+◌, ◌-◌, ◌%◌, ◌≤◌, ◌<◌}
-use mathlib.Core.Path.{◌≡◌, refl, sym, ap, ◌∙◌, subst⁻¹}
+use Prim.Native.Nat.{ℕ, suc, ◌+◌, ◌%◌, ◌≤◌, ◌<◌}
+use mathlib.Core.Path.{◌≡◌, sym, ap, ◌∙◌, subst⁻¹}
 use mathlib.Core.List.{List}
 use native.Mathlib.Omega.{arith}
 use native.Mathlib.Numerals.{add-one}
-use native.Mathlib.Nat.{add-zero}
-use lib.ListN.{length, get_or, set, length-set}
+use lib.ListN.{get_or, set, length-set}
 use Rattle.state.specs.declared.State.{State}
-use Rattle.state.specs.View.{ring, queue_of, view, Fine, turned, turn}
-use Rattle.state.proofs.Told.{queue-length}
+use Rattle.state.specs.View.{ring, queue_of, view, Fine, turn}
 use Rattle.state.proofs.Ring.{front-any, one-turn, turned_more}
 use Rattle.state.proofs.State.turn.Invariants.{queues, Turned}
 use Rattle.state.proofs.State.turn.Goals as goal

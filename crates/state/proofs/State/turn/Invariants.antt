@@ -1,14 +1,9 @@
-use Prim.Native.Nat.{ℕ, suc, ◌+◌, ◌-◌, ◌%◌, ◌≤◌, ◌<◌}
-use mathlib.Core.Path.{◌≡◌, refl, sym, ap, ◌∙◌, subst⁻¹}
+use Prim.Native.Nat.{ℕ, ◌+◌, ◌-◌, ◌≤◌}
+use mathlib.Core.Path.{◌≡◌}
 use mathlib.Core.List.{List}
-use native.Mathlib.Omega.{arith}
-use native.Mathlib.Numerals.{add-one}
-use native.Mathlib.Nat.{add-zero}
-use lib.ListN.{length, get_or, set, length-set}
+use lib.ListN.{length}
 use Rattle.state.specs.declared.State.{State}
-use Rattle.state.specs.View.{ring, queue_of, view, Fine, turned, turn}
-use Rattle.state.proofs.Told.{queue-length}
-use Rattle.state.proofs.Ring.{front-any, one-turn, turned_more}
+use Rattle.state.specs.View.{queue_of, turned}
 use Rattle.state.proofs.State.turn.Given as goal
 
 -- a state with another queue, and with another front
