@@ -1,7 +1,7 @@
 -- Tries of the front: turned while it waits, taken up when it is ready; over any task language.
 -- Assumes nothing.
 use Prim.Native.Nat.{ℕ, zero, suc, ◌+◌, ◌<◌, ◌≤◌}
-use mathlib.Core.Path.{◌≡◌, refl, sym, ap, ◌∙◌, fun_ext}
+use mathlib.Core.Path.{◌≡◌, refl, sym, ap, ◌∙◌, fun_ext, subst⁻¹}
 use mathlib.Core.Bool.{Bool, true, false, ◌||◌, cond}
 use mathlib.Core.Option.{some}
 use mathlib.Core.List.{List, [], ◌∷◌, ◌++◌}
@@ -161,7 +161,7 @@ module _ (R : Rules) where
         where
           by : (p : List R.Task) → p ≡ f.first ∷ f.rest → any_go R (idle_c R s p) p ≡ true → readiness R (idle_c R s p) f.first ≡ readiness R (idle_c R s q) f.first
               → next R (idle_c R s p) ≡ try_of R (readiness R (idle_c R s q) f.first) (idle_c R s p) f.first f.rest
-          by p e any same = rw e (rw (rw e at any, rw e at same) refl)
+          by p e = subst⁻¹ (λ (p : List R.Task). any_go R (idle_c R s p) p ≡ true → readiness R (idle_c R s p) f.first ≡ readiness R (idle_c R s q) f.first → next R (idle_c R s p) ≡ try_of R (readiness R (idle_c R s q) f.first) (idle_c R s p) f.first f.rest) e (λ any same. rw (any, same) refl)
 
       pub next-turned : (z : ℤ) → Turns R (readiness R (idle_c R s q) f.first) z
           → next R (idle_c R s (turned n q)) ≡ goes (some (R.turn f.first z)) (idle_c R s (turned (suc n) q))
