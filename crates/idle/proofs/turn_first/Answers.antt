@@ -4,6 +4,7 @@ use mathlib.Core.Path.{◌≡◌, refl, ◌∙◌, subst}
 use mathlib.Core.Bool.{false}
 use mathlib.Core.List.{List}
 use native.Mathlib.Omega.{arith}
+use borrow.Author.Rules.{rules}
 use lib.ListN.{length}
 use Rattle.rules.specs.Recipe.{Within}
 use Rattle.rules.specs.Table.{recipe_of}
@@ -59,3 +60,15 @@ overflow_add-result c = let h = c.requires.in_budget in omega (arith, c.ranges.b
 pub shape_of-log : goal.shape_of-log
 shape_of-log c = c.loop-i.invariant.1.same_length
 
+pub loop-i-preserved : goal.loop-i-preserved
+loop-i-preserved c =
+    let p = c.requires in
+    let x = c.waiting_at-x in
+    let i = c.loop-i-test.true in
+    let w = (spells c.args.table.now (λ i. omega (arith, c.type_inv.table i)) p.waiting.accepted).within in
+    let z = result32 {z = c.carried.result} c.carried.type_inv ∙ c.carried.ensures in (
+      omega arith,
+      turned_more c.args.table.now w _ _ _ _ _ c.args.k _ (task_of x.result.task) x.result.wait
+          c.loop-i.invariant.1 i p.waits p.some_go p.in_budget p.in_log x.ensures.task_is x.ensures.wait_is
+          (rw z at c.put_event.ensures) (search rules),
+    )
