@@ -9,6 +9,8 @@ use native.Mathlib.Decide.{dec_lt, ℕ_discrete}
 use native.Mathlib.Omega.{arith}
 use lib.Dec.{eqb, leb}
 use lib.IntN.{ℤ}
+use mir.Val.{Fits}
+use mir.Syntax.{w8}
 use lib.ListN.{length, get_or, drop, length-drop, get_or-eq_default}
 use lib.Seq.{get_or-drop}
 use borrow.Author.Tests.{ne_eqb, leb-true, eqb-true}
@@ -169,6 +171,9 @@ pub record Place (t : List ℕ) (i : ℕ) : Type 0 where
   pub bytes : Bytes t
   pub accepted : check t ≡ fine
   pub placed : is_place (recipe_of t) i ≡ true
+
+pub place_of : (t : List ℕ) (i : ℕ) → ((k : ℕ) → Fits w8 (get_or t k 0)) → check t ≡ fine → is_place (recipe_of t) i ≡ true → Place t i
+place_of t i b a p = record { bytes = λ k. (b k).fits; accepted = a; placed = p }
 
 module _ {t : List ℕ} {i : ℕ} (p : Place t i) where
   pub within : (1 ≤ i) × (i ≤ records t) × ((eqb i (records t) || at_place (kind_of (drop (8 * i) t))) ≡ true)

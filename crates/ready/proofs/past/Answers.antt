@@ -1,27 +1,22 @@
-use mathlib.Core.Path.{◌≡◌, sym, ap, ◌∙◌}
-use native.Mathlib.Omega.{arith}
-use Prim.Native.Nat.{◌*◌}
-use lib.ListN.{get_or}
-use borrow.Author.Rules.{rules}
+use mathlib.Core.Path.{sym, ap, ◌∙◌}
 use Rattle.rules.specs.Steps.{go_to}
 use Rattle.ready.specs.Ready.{wait_kind}
-use Rattle.ready.proofs.There.{Place, waitable_there, waitable_inside, few-there, free-there}
+use Rattle.ready.proofs.There.{place_of, waitable_there, waitable_inside, few-there, free-there}
 use Rattle.ready.proofs.past.Goals as goal
 
-place : (c : goal.After-shared_slice_known-1) → Place c.args.table.now c.args.place
-place c =
-    let given = c.requires in
-    record { bytes = λ i. omega (arith, c.type_inv.table i); accepted = given.0; placed = given.1 }
+pub bounds-next-i : goal.bounds-next-i
+bounds-next-i c =
+    let p = place_of _ _ c.type_inv.table c.requires.0 c.requires.1 in
+    few-there p (waitable_inside p (sym (c.can_wait.ensures ∙ ap wait_kind c.kind_at.ensures) ∙ c.if-can_wait.true))
 
-pub overflow_mul-i : goal.overflow_mul-i
-overflow_mul-i c = search rules
+pub returns-then-can_wait : goal.returns-then-can_wait
+returns-then-can_wait c =
+    let p = place_of _ _ c.type_inv.table c.requires.0 c.requires.1 in
+    let h = waitable_there p (sym (c.can_wait.ensures ∙ ap wait_kind c.kind_at.ensures) ∙ c.if-can_wait.true) in
+    λ t e. h.goes_past t ∙ ap (go_to t) (sym (c.requires.2 c.args.place h.a-statement))
 
-pub kind_at-requires : goal.kind_at-requires
-kind_at-requires c = search rules
-
-pub can_wait-requires : goal.can_wait-requires
-can_wait-requires c = search rules
-
-pub offset_bounds-next-i : goal.offset_bounds-next-i
-offset_bounds-next-i c = search rules
-
+pub returns : goal.returns
+returns c =
+    let p = place_of _ _ c.type_inv.table c.requires.0 c.requires.1 in
+    let f = free-there p (sym (c.can_wait.ensures ∙ ap wait_kind c.kind_at.ensures) ∙ c.if-can_wait.false) in
+    λ t e. f.stays t ∙ ap (go_to t) e

@@ -10,27 +10,6 @@ use Rattle.ready.specs.Ready.{idle, ready_in, Placed}
 use Rattle.ready.proofs.Queue.{every_at}
 use Rattle.ready.proofs.waiting_at.Goals as goal
 
--- the task waits
-held : (c : goal.After-unpack-task) → let a = c.args in
-    is_ready (ready_in a.table.now (idle a.issued a.variables.now a.queue.now a.front a.queued) (task_of c.unpack-task.result)) ≡ false
-held c =
-
-    let a = c.args in
-    let state = idle a.issued a.variables.now a.queue.now a.front a.queued in
-    subst⁻¹ (λ (t : Task ℕ). is_ready (ready_in a.table.now state t) ≡ false) c.unpack-task.ensures c.requires.2
-
-pub overflow_add-at : goal.overflow_add-at
-overflow_add-at c = search rules
-
-pub offset_bounds-queue-at : goal.offset_bounds-queue-at
-offset_bounds-queue-at c = search rules
-
-pub bounds-queue-at : goal.bounds-queue-at
-bounds-queue-at c = search rules
-
-pub unpack-task-requires : goal.unpack-task-requires
-unpack-task-requires c = search rules
-
 pub held_by-wait-requires : goal.held_by-wait-requires
 unfolding queue_of
 held_by-wait-requires c =
@@ -38,5 +17,15 @@ held_by-wait-requires c =
     let w = c.requires.0 in
     let r = recipe_of a.table.now in
     let placed = every_at (Placed r) (entry a.queue.now a.front) a.queued w.placed a.i c.requires.1 in
-    (w.accepted, subst⁻¹ (Placed r) c.unpack-task.ensures placed, record { state = idle a.issued a.variables.now a.queue.now a.front a.queued; waits = held c })
+    (w.accepted, subst⁻¹ (Placed r) c.unpack-task.ensures placed, record { state = idle a.issued a.variables.now a.queue.now a.front a.queued; waits = subst⁻¹ (λ (t : Task ℕ). is_ready (ready_in a.table.now (idle a.issued a.variables.now a.queue.now a.front a.queued) t) ≡ false) c.unpack-task.ensures c.requires.2 })
 
+pub returns : goal.returns
+returns c =
+    let a = c.args in
+    let state = idle a.issued a.variables.now a.queue.now a.front a.queued in
+    let e = c.unpack-task.ensures in
+    let held = subst⁻¹ (λ (t : Task ℕ). is_ready (ready_in a.table.now state t) ≡ false) e c.requires.2 in
+    record {
+      task_is = e;
+      wait_is = c.held_by-wait.ensures state refl held ∙ ap (ready_in a.table.now state) e;
+    }
