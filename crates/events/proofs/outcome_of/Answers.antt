@@ -51,3 +51,9 @@ returns-in-Ends c = rw c.in-Ends.is (ends-tells _ _ _)
 
 pub returns-in-Lacks : goal.returns-in-Lacks
 returns-in-Lacks c = rw c.in-Lacks.is (lacks-tells _ _ _)
+
+pub returns-then-name-lt8 : goal.returns-then-name-lt8
+returns-then-name-lt8 c = rw (c.in-Sets.is, result32 {z = c.in-Sets.v} (omega arith)) (valve-tells _ _ _ _ _ _ c.if-name-lt8.true)
+
+pub returns-then-queued-ge31 : goal.returns-then-queued-ge31
+returns-then-queued-ge31 c = rw c.in-Spawns.is (tasks-tells _ _ _ _ _ _ _ c.if-queued-ge31.true)
