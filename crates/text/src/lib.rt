@@ -21,6 +21,7 @@ pub fn put_word(b: &mut [u8], at: usize, word: &[u8]) -> usize
 }
 
 // The word of a log record's kind.
+#[tactic(auto, unfolding(rules::specs::Print::kind_word))]
 pub fn put_kind(b: &mut [u8], at: usize, kind: u8) -> usize
     requires { at + 7 ≤ length b.old }
     ensures { Puts b.old at (kind_word kind) result b.new }
@@ -37,6 +38,7 @@ pub fn put_kind(b: &mut [u8], at: usize, kind: u8) -> usize
 }
 
 // The word of a run's ending.
+#[tactic(auto, unfolding(rules::specs::Print::ending_word))]
 pub fn put_ending(b: &mut [u8], at: usize, number: u32) -> usize
     requires { at + 8 ≤ length b.old }
     ensures { Puts b.old at (ending_word number) result b.new }

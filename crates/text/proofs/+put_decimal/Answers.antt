@@ -1,7 +1,7 @@
 -- The digits of a number by recursion: the measure is the number.
 -- Assumes nothing.
-use Prim.Native.Nat.{ℕ, ◌+◌, ◌/◌, ◌%◌, ◌≤◌, ◌<◌}
-use mathlib.Core.Path.{sym, ap, ◌∙◌}
+use Prim.Native.Nat.{◌+◌, ◌/◌, ◌%◌, ◌≤◌, ◌<◌}
+use mathlib.Core.Path.{sym, ap}
 use mathlib.Core.List.{[], ◌∷◌}
 use native.Mathlib.Omega.{arith}
 use lib.ListN.{length}
@@ -10,18 +10,11 @@ use Rattle.text.proofs.Buffers.{reads_as, then, fits, front}
 use Rattle.text.proofs.Numbers.{decimal-one, decimal_more}
 use Rattle.text.proofs.+put_decimal.Goals as goal
 
--- what the callees ask and give
-abbrev callees : ℕ → put-decimal-lts.Claims
-callees t = (put-digit-reads.Asked, put-digit-reads.Learnt, put-decimal-below t, put-decimal.Post)
-
 pub put_digit-requires : goal.put_digit-requires
 put_digit-requires t c =
     let l : c.args.n < 10 = omega arith in
     let e = ap length (decimal-one c.args.n l) in
-    (l, omega (arith, c.requires.1))
-
-pub shape_of-b-then-n-lt10 : goal.shape_of-b-then-n-lt10
-shape_of-b-then-n-lt10 t c = c.put_digit.auto.0
+    (l, omega (arith, c.requires))
 
 pub returns-then-n-lt10 : goal.returns-then-n-lt10
 returns-then-n-lt10 t c =
@@ -31,16 +24,13 @@ pub put_decimal-last-requires : goal.put_decimal-last-requires
 put_decimal-last-requires t c =
     let n = c.args.n in
     let l : 10 ≤ n = omega arith in
-    (omega (arith, c.requires.0), front c.args.at (decimal (n / 10)) ((48 + n % 10) ∷ []) (rw (decimal_more n l) at c.requires.1))
+    (omega (arith, c.requires), front c.args.at (decimal (n / 10)) ((48 + n % 10) ∷ []) (rw (decimal_more n l) at c.requires))
 
 pub put_digit-requires-2 : goal.put_digit-requires-2
 put_digit-requires-2 t c =
     let n = c.args.n in
     let l : 10 ≤ n = omega arith in
-    (omega arith, omega (arith, fits c.put_decimal-last.ensures ((48 + n % 10) ∷ []) (rw (decimal_more n l) at c.requires.1)))
-
-pub shape_of-b : goal.shape_of-b
-shape_of-b t c = c.put_digit-2.auto.0 ∙ c.put_decimal-last.auto.0
+    (omega arith, omega (arith, fits c.put_decimal-last.ensures ((48 + n % 10) ∷ []) (rw (decimal_more n l) at c.requires)))
 
 pub returns : goal.returns
 returns t c =

@@ -1,4 +1,4 @@
-use Prim.Native.Nat.{ℕ, ◌+◌, ◌-◌, ◌≤◌}
+use Prim.Native.Nat.{ℕ, ◌+◌}
 use mathlib.Core.Path.{◌≡◌, refl, ap, ◌∙◌}
 use mathlib.Core.List.{List}
 use native.Mathlib.Omega.{arith}
@@ -17,7 +17,7 @@ pub overflow_add-b : goal.overflow_add-b
 overflow_add-b c = omega arith
 
 pub bounds-b-at : goal.bounds-b-at
-bounds-b-at c =     let l = c.loop-i in
+bounds-b-at c = let l = c.loop-i in
     let a = c.args in
     omega (arith, ap length l.invariant.1 ∙ length-sets a.b.now a.at (take l.i a.word.now))
 
@@ -28,7 +28,7 @@ pub loop-i-smaller : goal.loop-i-smaller
 loop-i-smaller c = omega arith
 
 pub loop-i-preserved : goal.loop-i-preserved
-loop-i-preserved c =     let l = c.loop-i in
+loop-i-preserved c = let l = c.loop-i in
     let a = c.args in
     (omega arith, one_more a.b.now a.at a.word.now l.i (omega arith) l.invariant.1)
 
@@ -39,7 +39,7 @@ pub shape_of-b : goal.shape_of-b
 shape_of-b c = ap length c.loop-i.invariant.1 ∙ simp length-sets
 
 pub returns : goal.returns
-returns c =     let l = c.loop-i in
+returns c = let l = c.loop-i in
     let a = c.args in
     let n : l.i ≡ length a.word.now = omega arith in
     record { ends = ap (λ (k : ℕ). a.at + k) n; inside = omega arith; holds = l.invariant.1 ∙ ap (λ (w : List ℕ). sets a.b.now a.at w) (take_all l.i a.word.now (omega arith)) }
