@@ -35,6 +35,7 @@ fn most_active(live: u8) -> u8
 }
 
 // Record 0.
+#[tactic(auto, unfolding(rules::specs::State::head_fits))]
 fn head_fits(block: &[u8]) -> bool
     requires { length block.now ≡ 520 }
     ensures { result ≡ head_fits block.now }

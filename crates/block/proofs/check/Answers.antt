@@ -3,23 +3,16 @@ use Rattle.rules.specs.Answers.{of_block}
 use Rattle.rules.proofs.Answers.{records-number}
 use Rattle.table.proofs.Told.{none_told, fault-told}
 use Rattle.block.proofs.Checking.{wrong_length, records-fault, numbers_decide}
-use borrow.Author.Rules.{rules}
 use Rattle.block.proofs.check.Goals as goal
 
 pub returns-then-block-ne520 : goal.returns-then-block-ne520
 returns-then-block-ne520 c = wrong_length _ c.args.block.now c.if-block-ne520.true
-
-pub check_records-records-requires : goal.check_records-records-requires
-check_records-records-requires c = search rules
 
 pub returns-then-records-ne0 : goal.returns-then-records-ne0
 returns-then-records-ne0 c =
 
     let f = fault-told c.check_records-records.result c.if-records-ne0.true in
     f ∙ records-fault _ c.args.block.now c.if-block-ne520.false (sym c.check_records-records.ensures ∙ f)
-
-pub check_numbers-requires : goal.check_numbers-requires
-check_numbers-requires c = search rules
 
 pub returns : goal.returns
 returns c =

@@ -1,7 +1,6 @@
 use mathlib.Core.Path.{◌≡◌, refl, sym, ◌∙◌}
 use Prim.Native.Nat.{◌-◌, ◌≤◌}
 use native.Mathlib.Omega.{arith}
-use borrow.Author.Tests.{not-true, not-false}
 use Rattle.rules.specs.Table.{recipe_of}
 use Rattle.rules.specs.Places.{is_place}
 use Rattle.rules.specs.State.{check_records}
@@ -23,7 +22,7 @@ pub returns-then-not-record_fits : goal.returns-then-not-record_fits
 returns-then-not-record_fits c =
 
     let b = c.args.block.now in
-    let bad = sym c.record_fits.ensures ∙ not-true _ c.if-not-record_fits.true in
+    let bad = sym c.record_fits.ensures ∙ c.if-not-record_fits.true in
     records-stop _ b c.loop-i.i c.loop-i-test.true bad ∙ c.loop-i.invariant.2
 
 pub overflow_add-at : goal.overflow_add-at
@@ -39,7 +38,7 @@ pub loop-i-preserved : goal.loop-i-preserved
 loop-i-preserved c =
 
     let b = c.args.block.now in
-    let good = sym c.record_fits.ensures ∙ not-false _ c.if-not-record_fits.false in
+    let good = sym c.record_fits.ensures ∙ c.if-not-record_fits.false in
     (omega arith, omega arith, records_go _ b c.loop-i.i c.loop-i-test.true good ∙ c.loop-i.invariant.2)
 
 pub returns : goal.returns

@@ -5,15 +5,25 @@ use lib.Seq.{sets}
 use Rattle.rules.specs.Fields.{bytes2, bytes4}
 use Rattle.rules.proofs.Lists.{take_sets}
 use Rattle.block.specs.Block.{head_of}
-use borrow.Author.Rules.{rules}
 use Rattle.block.proofs.put_head.Goals as goal
 
-pub put_half-requires : goal.put_half-requires
-put_half-requires c = search rules
+pub put_word-requires : goal.put_word-requires
+put_word-requires c =
+    let k : length c.put_half.new.b ≡ length c.args.b.now = c.put_half.auto.b in
+    simp length-set (omega arith)
 
-pub bounds-b-2 : goal.bounds-b-2
-bounds-b-2 c = search rules
+pub shape_of-b : goal.shape_of-b
+shape_of-b c =
 
-pub bounds-b-3 : goal.bounds-b-3
-bounds-b-3 c = search rules
+    let m : length c.put_word.new.b ≡ length c.put_half.new.b = simp length-set at c.put_word.auto.b in
+    m ∙ c.put_half.auto.b
 
+pub returns : goal.returns
+unfolding head_of
+returns c =
+
+    let a = c.args in
+    let p : c.put_half.new.b ≡ sets a.b.now 0 (bytes2 a.issued) = c.put_half.ensures in
+    let l = set (set c.put_half.new.b 2 a.live) 3 a.taken in
+    let q : c.put_word.new.b ≡ sets l 4 (bytes4 0) = c.put_word.ensures in
+    rw (q, p) (take_sets (head_of a.issued a.live a.taken) a.b.now 0 (omega arith))

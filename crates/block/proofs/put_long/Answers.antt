@@ -4,24 +4,15 @@ use native.Mathlib.Omega.{arith}
 use lib.Seq.{sets}
 use Rattle.rules.specs.Fields.{bytes4}
 use Rattle.block.specs.Block.{bytes8}
-use borrow.Author.Rules.{rules}
 use Rattle.block.proofs.put_long.Goals as goal
 
-pub overflow_cast-x : goal.overflow_cast-x
-overflow_cast-x c = search rules
+pub returns : goal.returns
+unfolding bytes8
+returns c =
 
-pub put_word-requires : goal.put_word-requires
-put_word-requires c = search rules
-
-pub overflow_add-at : goal.overflow_add-at
-overflow_add-at c = search rules
-
-pub overflow_cast-x-2 : goal.overflow_cast-x-2
-overflow_cast-x-2 c = search rules
-
-pub put_word-requires-2 : goal.put_word-requires-2
-put_word-requires-2 c = search rules
-
-pub shape_of-b : goal.shape_of-b
-shape_of-b c = search rules
-
+    let a = c.args in
+    let at4 : a.at + 4 ≡ suc (suc (suc (suc a.at))) = omega arith in
+    let b = c.put_word.new.b in
+    let p : b ≡ sets a.b.now a.at (bytes4 (a.x % 4294967296)) = c.put_word.ensures in
+    let q : c.put_word-2.new.b ≡ sets b (a.at + 4) (bytes4 (a.x / 4294967296)) = c.put_word-2.ensures in
+    rw (q, p, at4)

@@ -1,8 +1,10 @@
 use mathlib.Core.Path.{◌≡◌, refl, sym, ap, ◌∙◌}
 use mathlib.Core.List.{List, ◌++◌, append-nil}
-use Prim.Native.Nat.{ℕ, ◌+◌, ◌-◌, ◌*◌, ◌≤◌}
+use Prim.Native.Nat.{ℕ, ◌+◌, ◌-◌, ◌*◌, ◌≤◌, ◌<◌}
 use native.Mathlib.Omega.{arith}
+use borrow.Author.Rules.{rules}
 use lib.IntN.{pos}
+use lib.Signed.{mag}
 use lib.ListN.{length, get_or, take}
 use lib.Seq.{sets, length-sets, take_all}
 use Rattle.values.proofs.Exact.{result32}
@@ -35,6 +37,24 @@ overflow_add-j-in-loop-j c = omega arith
 
 pub loop-j-smaller : goal.loop-j-smaller
 loop-j-smaller c = omega arith
+
+pub loop-j-preserved : goal.loop-j-preserved
+loop-j-preserved c =
+
+    let a = c.args in
+    let j = c.loop-j.j in
+    let b = c.loop-j.b in
+    let f : ℕ → List ℕ = λ k. bytes4 (bits (get_or a.variables k (pos 0))) in
+    let at = 264 + 4 * j in
+    let m : mag (get_or a.variables j (pos 0)) < 2147483648 = search rules in
+    let z = result32 {z = get_or a.variables j (pos 0)} m in
+    let e : c.put_value.new.b ≡ sets b at (f j) = c.put_value.ensures ∙ rw z in
+    let n : 264 + 4 * (j + 1) ≡ at + 4 = omega arith in
+    let l : length c.put_value.new.b ≡ length b = ap length e ∙ length-sets b at (f j) in (
+      omega arith,
+      omega arith,
+      rw (n, e) (joined_more b (take 264 a.b.now) f j at 4 (f j) refl (omega arith) c.loop-j.invariant.2 refl),
+    )
 
 pub shape_of-b : goal.shape_of-b
 shape_of-b c = omega arith

@@ -5,33 +5,18 @@ use lib.Dec.{eqb}
 use lib.ListN.{get_or}
 use Rattle.block.specs.Block.{long}
 use Rattle.block.proofs.Checking.{record_zero, record_used, record_unused}
-use borrow.Author.Rules.{rules}
 use Rattle.block.proofs.record_fits.Goals as goal
 
-pub head_fits-requires : goal.head_fits-requires
-head_fits-requires c = search rules
-
 pub returns-then-i-eq0 : goal.returns-then-i-eq0
-returns-then-i-eq0 c =     let a = c.args in
+returns-then-i-eq0 c =
+    let a = c.args in
     c.head_fits.ensures ∙ record_zero _ a.block.now a.i c.if-i-eq0.true
-
-pub bounds-block-2 : goal.bounds-block-2
-bounds-block-2 c = search rules
-
-pub wide-requires : goal.wide-requires
-wide-requires c = search rules
-
-pub task_fits-requires : goal.task_fits-requires
-task_fits-requires c = search rules
 
 pub returns-then-i-wide : goal.returns-then-i-wide
 returns-then-i-wide c =
     let a = c.args in
     let l : c.wide.result ≡ get_or a.block.now 2 0 = c.wide.ensures.0 in
     c.task_fits.ensures ∙ record_used _ a.block.now a.i c.if-i-eq0.false (omega arith)
-
-pub long_at-requires : goal.long_at-requires
-long_at-requires c = search rules
 
 pub returns : goal.returns
 returns c =

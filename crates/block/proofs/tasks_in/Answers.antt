@@ -30,7 +30,8 @@ pub loop-i-smaller : goal.loop-i-smaller
 loop-i-smaller c = omega arith
 
 pub loop-i-preserved : goal.loop-i-preserved
-loop-i-preserved c =     let a = c.args in
+loop-i-preserved c =
+    let a = c.args in
     let l = c.loop-i in
     let x = c.long_at.result in
     let f : ℕ → ℕ = λ k. record_in a.block.now (k + 1) in (

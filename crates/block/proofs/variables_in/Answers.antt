@@ -35,7 +35,8 @@ pub loop-j-smaller : goal.loop-j-smaller
 loop-j-smaller c = omega arith
 
 pub loop-j-preserved : goal.loop-j-preserved
-loop-j-preserved c =     let b = c.args.block.now in
+loop-j-preserved c =
+    let b = c.args.block.now in
     let l = c.loop-j in
     let e = result32 c.value_at-v.type_inv ∙ c.value_at-v.ensures in (
       omega arith,
