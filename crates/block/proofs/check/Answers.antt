@@ -10,13 +10,11 @@ returns-then-block-ne520 c = wrong_length _ c.args.block.now c.if-block-ne520.tr
 
 pub returns-then-records-ne0 : goal.returns-then-records-ne0
 returns-then-records-ne0 c =
-
     let f = fault-told c.check_records-records.result c.if-records-ne0.true in
     f ∙ records-fault _ c.args.block.now c.if-block-ne520.false (sym c.check_records-records.ensures ∙ f)
 
 pub returns : goal.returns
 returns c =
-
     let b = c.args.block.now in
     let none = none_told of_block c.check_records-records.result c.check_records-records.ensures (records-number _ b 33 0) refl c.if-records-ne0.false in
     c.check_numbers.ensures ∙ numbers_decide _ b c.if-block-ne520.false none

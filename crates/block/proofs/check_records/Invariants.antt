@@ -1,15 +1,14 @@
-use mathlib.Core.Path.{◌≡◌, refl, sym, ◌∙◌}
+use mathlib.Core.Path.{◌≡◌}
 use Prim.Native.Nat.{◌-◌, ◌≤◌}
-use native.Mathlib.Omega.{arith}
 use Rattle.rules.specs.Table.{recipe_of}
 use Rattle.rules.specs.Places.{is_place}
 use Rattle.rules.specs.State.{check_records}
 use Rattle.block.specs.Block.{OffsetOf}
-use Rattle.block.proofs.Checking.{records-stop, records_go, records-end}
 use Rattle.block.proofs.check_records.Given as goal
 
 abbrev pub invariant-loop-i : goal.invariant-loop-i
-invariant-loop-i l =     (l.i ≤ 33) × OffsetOf l.i l.at
+invariant-loop-i l =
+    (l.i ≤ 33) × OffsetOf l.i l.at
     × (check_records (is_place (recipe_of l.table)) l.block (33 - l.i) l.i ≡ check_records (is_place (recipe_of l.table)) l.block 33 0)
 
 abbrev pub decreases-loop-i : goal.decreases-loop-i

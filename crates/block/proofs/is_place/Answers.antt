@@ -1,9 +1,8 @@
-use mathlib.Core.Path.{◌≡◌, sym, ap, ◌∙◌}
+use mathlib.Core.Path.{sym, ◌∙◌}
 use Prim.Native.Nat.{◌*◌}
 use native.Mathlib.Omega.{arith}
 use borrow.Author.Tests.{le-leb, lt-leb, eq-eqb, ne_eqb}
 use Rattle.rules.specs.Table.{records}
-use Rattle.rules.specs.Standing.{at_place}
 use Rattle.rules.proofs.Standing.{kind_at, is-place}
 use Rattle.block.proofs.is_place.Goals as goal
 

@@ -14,14 +14,12 @@ put_word-requires c =
 
 pub shape_of-b : goal.shape_of-b
 shape_of-b c =
-
     let m : length c.put_word.new.b ≡ length c.put_half.new.b = simp length-set at c.put_word.auto.b in
     m ∙ c.put_half.auto.b
 
 pub returns : goal.returns
 unfolding head_of
 returns c =
-
     let a = c.args in
     let p : c.put_half.new.b ≡ sets a.b.now 0 (bytes2 a.issued) = c.put_half.ensures in
     let l = set (set c.put_half.new.b 2 a.live) 3 a.taken in

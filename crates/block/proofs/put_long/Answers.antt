@@ -9,7 +9,6 @@ use Rattle.block.proofs.put_long.Goals as goal
 pub returns : goal.returns
 unfolding bytes8
 returns c =
-
     let a = c.args in
     let at4 : a.at + 4 ≡ suc (suc (suc (suc a.at))) = omega arith in
     let b = c.put_word.new.b in

@@ -1,13 +1,13 @@
 use mathlib.Core.Path.{◌≡◌, refl, sym, ap, ◌∙◌}
-use mathlib.Core.List.{List, ◌++◌, append-nil}
-use Prim.Native.Nat.{ℕ, ◌+◌, ◌-◌, ◌*◌, ◌≤◌}
+use mathlib.Core.List.{List, append-nil}
+use Prim.Native.Nat.{ℕ, ◌+◌, ◌-◌, ◌*◌}
 use native.Mathlib.Omega.{arith}
 use lib.ListN.{length, get_or, take}
 use lib.Seq.{sets, length-sets}
 use Rattle.rules.specs.State.{joined}
 use Rattle.rules.proofs.Lists.{joined_more}
 use Rattle.state.specs.View.{ring}
-use Rattle.block.specs.Block.{OffsetOf, bytes8, ring_rows}
+use Rattle.block.specs.Block.{bytes8}
 use Rattle.block.proofs.put_records.Goals as goal
 
 pub loop-k-init : goal.loop-k-init
@@ -17,34 +17,9 @@ loop-k-init c =
     let e : a.first - a.first ≡ 0 = omega arith in
     (omega arith, omega arith, c.requires.4, omega arith, rw e (sym (append-nil _)))
 
-pub overflow_sub-x : goal.overflow_sub-x
-overflow_sub-x c = omega arith
-
-pub overflow_add-x : goal.overflow_add-x
-overflow_add-x c = omega arith
-
-pub offset_bounds-records-front : goal.offset_bounds-records-front
-offset_bounds-records-front c = omega arith
-
-pub bounds-records-front : goal.bounds-records-front
-bounds-records-front c = omega arith
-
-pub put_long-requires : goal.put_long-requires
-put_long-requires c = omega arith
-
-pub overflow_add-to : goal.overflow_add-to
-overflow_add-to c = omega arith
-
-pub overflow_add-k : goal.overflow_add-k
-overflow_add-k c = omega arith
-
-pub loop-k-smaller : goal.loop-k-smaller
-loop-k-smaller c = omega arith
-
 pub loop-k-preserved : goal.loop-k-preserved
 unfolding bytes8
 loop-k-preserved c =
-
     let a = c.args in
     let k = c.loop-k.k in
     let i = k - a.first in
@@ -61,9 +36,6 @@ loop-k-preserved c =
       rw (n, m, e)
           (joined_more b (take (8 * a.first) a.b.now) f i (8 * k) 8 (f i) refl (omega arith) c.loop-k.invariant.4 refl),
     )
-
-pub shape_of-b : goal.shape_of-b
-shape_of-b c = omega arith
 
 pub returns : goal.returns
 returns c =

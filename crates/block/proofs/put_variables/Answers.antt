@@ -1,6 +1,6 @@
 use mathlib.Core.Path.{◌≡◌, refl, sym, ap, ◌∙◌}
-use mathlib.Core.List.{List, ◌++◌, append-nil}
-use Prim.Native.Nat.{ℕ, ◌+◌, ◌-◌, ◌*◌, ◌≤◌, ◌<◌}
+use mathlib.Core.List.{List, append-nil}
+use Prim.Native.Nat.{ℕ, ◌+◌, ◌*◌, ◌<◌}
 use native.Mathlib.Omega.{arith}
 use borrow.Author.Rules.{rules}
 use lib.IntN.{pos}
@@ -17,30 +17,8 @@ pub loop-j-init : goal.loop-j-init
 unfolding joined
 loop-j-init c = (omega arith, omega arith, sym (append-nil _))
 
-pub overflow_mul-j : goal.overflow_mul-j
-overflow_mul-j c = omega arith
-
-pub overflow_add-j : goal.overflow_add-j
-overflow_add-j c = omega arith
-
-pub offset_bounds-variables-j : goal.offset_bounds-variables-j
-offset_bounds-variables-j c = omega arith
-
-pub bounds-variables-j : goal.bounds-variables-j
-bounds-variables-j c = omega arith
-
-pub put_value-requires : goal.put_value-requires
-put_value-requires c = omega arith
-
-pub overflow_add-j-in-loop-j : goal.overflow_add-j-in-loop-j
-overflow_add-j-in-loop-j c = omega arith
-
-pub loop-j-smaller : goal.loop-j-smaller
-loop-j-smaller c = omega arith
-
 pub loop-j-preserved : goal.loop-j-preserved
 loop-j-preserved c =
-
     let a = c.args in
     let j = c.loop-j.j in
     let b = c.loop-j.b in
@@ -56,10 +34,8 @@ loop-j-preserved c =
       rw (n, e) (joined_more b (take 264 a.b.now) f j at 4 (f j) refl (omega arith) c.loop-j.invariant.2 refl),
     )
 
-pub shape_of-b : goal.shape_of-b
-shape_of-b c = omega arith
-
 pub returns : goal.returns
-returns c = let l = c.loop-j in
+returns c =
+    let l = c.loop-j in
     let e : l.j ≡ 64 = omega arith in
     sym (take_all 520 l.b (omega arith)) ∙ (rw e at l.invariant.2)

@@ -20,7 +20,6 @@ returns-then-i-wide c =
 
 pub returns : goal.returns
 returns c =
-
     let a = c.args in
     let l : c.wide.result ≡ get_or a.block.now 2 0 = c.wide.ensures.0 in
     ap (λ (x : ℕ). eqb x 0) (c.long_at.ensures ∙ ap (long a.block.now) c.requires.3)

@@ -1,33 +1,15 @@
 use mathlib.Core.Path.{◌≡◌, refl, ap, ◌∙◌}
-use Prim.Native.Nat.{ℕ, ◌+◌, ◌-◌, ◌≤◌}
+use Prim.Native.Nat.{ℕ, ◌+◌}
 use native.Mathlib.Omega.{arith}
-use lib.ListN.{length, length-set, take}
+use lib.ListN.{length-set}
 use Rattle.rules.specs.State.{tab}
 use Rattle.rules.proofs.Lists.{tab_more}
-use Rattle.block.specs.Block.{OffsetOf, long, record_in}
+use Rattle.block.specs.Block.{long, record_in}
 use Rattle.block.proofs.tasks_in.Goals as goal
 
 pub loop-i-init : goal.loop-i-init
 unfolding tab
 loop-i-init c = (omega arith, refl, refl, refl)
-
-pub long_at-requires : goal.long_at-requires
-long_at-requires c = omega arith
-
-pub offset_bounds-tasks-i : goal.offset_bounds-tasks-i
-offset_bounds-tasks-i c = omega arith
-
-pub bounds-tasks-i : goal.bounds-tasks-i
-bounds-tasks-i c = omega arith
-
-pub overflow_add-from : goal.overflow_add-from
-overflow_add-from c = omega arith
-
-pub overflow_add-i : goal.overflow_add-i
-overflow_add-i c = omega arith
-
-pub loop-i-smaller : goal.loop-i-smaller
-loop-i-smaller c = omega arith
 
 pub loop-i-preserved : goal.loop-i-preserved
 loop-i-preserved c =
@@ -42,5 +24,6 @@ loop-i-preserved c =
     )
 
 pub returns : goal.returns
-returns c = let e : c.loop-i.i ≡ c.args.n = omega arith in
+returns c =
+    let e : c.loop-i.i ≡ c.args.n = omega arith in
     rw e at c.loop-i.invariant.3

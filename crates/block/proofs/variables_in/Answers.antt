@@ -1,7 +1,7 @@
 use mathlib.Core.Path.{◌≡◌, refl, sym, ◌∙◌}
-use Prim.Native.Nat.{◌+◌, ◌-◌, ◌*◌, ◌≤◌}
+use Prim.Native.Nat.{◌+◌, ◌*◌}
 use native.Mathlib.Omega.{arith}
-use lib.ListN.{length, length-set, take}
+use lib.ListN.{length-set}
 use lib.Seq.{take_all}
 use Rattle.values.proofs.Exact.{result32}
 use Rattle.rules.specs.Fields.{signed, word}
@@ -12,27 +12,6 @@ use Rattle.block.proofs.variables_in.Goals as goal
 pub loop-j-init : goal.loop-j-init
 unfolding tab
 loop-j-init c = (omega arith, refl, refl)
-
-pub overflow_mul-j : goal.overflow_mul-j
-overflow_mul-j c = omega arith
-
-pub overflow_add-j : goal.overflow_add-j
-overflow_add-j c = omega arith
-
-pub value_at-v-requires : goal.value_at-v-requires
-value_at-v-requires c = omega arith
-
-pub offset_bounds-variables-j : goal.offset_bounds-variables-j
-offset_bounds-variables-j c = omega arith
-
-pub bounds-variables-j : goal.bounds-variables-j
-bounds-variables-j c = omega arith
-
-pub overflow_add-j-in-loop-j : goal.overflow_add-j-in-loop-j
-overflow_add-j-in-loop-j c = omega arith
-
-pub loop-j-smaller : goal.loop-j-smaller
-loop-j-smaller c = omega arith
 
 pub loop-j-preserved : goal.loop-j-preserved
 loop-j-preserved c =
@@ -45,6 +24,7 @@ loop-j-preserved c =
     )
 
 pub returns : goal.returns
-returns c = let l = c.loop-j in
+returns c =
+    let l = c.loop-j in
     let e : l.j ≡ 64 = omega arith in
     sym (take_all 64 l.variables (omega arith)) ∙ (rw e at l.invariant.2)
