@@ -198,18 +198,19 @@ module _ (full : Limits) (r : Recipe) where
   any-goes w σ (here h) = rw (reads-is (can_go_at h))
   any-goes w σ (there {t = t} h) = rw (any-goes w σ h) (or-true (can_go S (idle w σ) t))
 
+  -- a queued task can go on, or one behind it can
+  front_or_behind : {w : Queue} {σ : Store} {t : Task Body} {v : Readiness} (q : Queue)
+      → Reads w σ t v
+      → (is_ready v || any_go S (idle w σ) q) ≡ true
+      → (any_go S (idle w σ) q ≡ true → Any (Schedulable w σ) q)
+      → Any (Schedulable w σ) (t ∷ q)
+  front_or_behind q (can_go_at u) h ih = here u
+  front_or_behind q (has_to_wait n) h ih = there (ih h)
+  front_or_behind q (guard-untrue g) h ih = there (ih h)
+
   goes-any : (w : Queue) (σ : Store) (q : Queue) → any_go S (idle w σ) q ≡ true → Any (Schedulable w σ) q
   goes-any w σ [] h = absurd (true≢false (sym h))
-  goes-any w σ (t ∷ q) h = go (readiness S (idle w σ) t) (reads w σ t) h (goes-any w σ q)
-    where
-      go : (v : Readiness)
-          → Reads w σ t v
-          → (is_ready v || any_go S (idle w σ) q) ≡ true
-          → (any_go S (idle w σ) q ≡ true → Any (Schedulable w σ) q)
-          → Any (Schedulable w σ) (t ∷ q)
-      go ready (can_go_at u) h ih = here u
-      go (waits_for z) u h ih = there (ih h)
-      go at_guard u h ih = there (ih h)
+  goes-any w σ (t ∷ q) h = front_or_behind q (reads w σ t) h (goes-any w σ q)
 
   -- ---- a rule that applies is what comes next
 
