@@ -2,14 +2,32 @@
 
 #![tactic(auto)]
 
-use libc::{STDIN_FILENO, STDOUT_FILENO};
+ghost use Rattle.std.specs.Prelude.{◌≤◌, length, IfOk};
+
 use print::print_recipe;
+use std::io;
+use std::io::Read;
+
+// Reads until the buffer is full or the input ends, and tells how many bytes that gave.
+fn read_full(input: &mut impl Read, buf: &mut [u8]) -> io::Result<usize>
+    ensures { IfOk result (λ n. n ≤ length buf.new) }
+{
+    let mut done: usize = 0;
+    while done < buf.len() {
+        let n = input.read(&mut buf[done..])?;
+        if n == 0 {
+            break;
+        }
+        done += n;
+    }
+    Ok(done)
+}
 
 // More than 32,768 bytes fit the table's buffer, so that a table that is too long is seen as such.
-fn main() {
-    let mut table = io::large_buffer();
+fn main(rt: HostRuntime) -> io::Result<()> {
+    let mut table = [0u8; 65536];
     let mut out = [0u8; 131072];
-    let len = io::read_full(STDIN_FILENO, &mut table);
+    let len = read_full(&mut rt.stdin(), &mut table)?;
     let written = print_recipe(&table[..len], &mut out);
-    io::write_all(STDOUT_FILENO, &out[..written]);
+    rt.write_all(&out[..written])
 }
