@@ -1,12 +1,13 @@
 -- A run call as a whole: from one stretch of steps to the next, and its end.
 -- Assumes nothing.
-use Prim.Native.Nat.{ℕ, zero, suc, ◌<◌}
+use Prim.Native.Nat.{ℕ, zero, suc, ◌≤◌, ◌<◌}
 use mathlib.Core.Path.{◌≡◌, refl, sym, ap, ◌∙◌, subst, subst⁻¹}
 use mathlib.Core.Bool.{true, false, false≢true}
 use mathlib.Core.Option.{none}
 use mathlib.Core.List.{List, [], ◌∷◌}
 use mathlib.Core.Logic.{⊎_elim}
 use native.Mathlib.Omega.{arith}
+use lib.IntN.{ℤ}
 use lib.ListN.{length, get_or}
 use types.Run.{OneOf}
 use denote.Enum.Declared.{tag_of}
@@ -14,7 +15,8 @@ use Rattle.rules.specs.Recipe.{Recipe}
 use Rattle.rules.specs.Table.{fine, check, recipe_of}
 use Rattle.rules.specs.Places.{at}
 use Rattle.rules.specs.State as R
-use Rattle.rules.specs.Steps.{go_to, past_at}
+use Rattle.rules.specs.Scheduler.{Run}
+use Rattle.rules.specs.Steps.{recipes, go_to, past_at}
 use Rattle.state.specs.declared.Task.{Task}
 use Rattle.state.specs.declared.State.{State}
 use Rattle.state.specs.View.{task_of, entry, queue_of, view, Fine, put_back, take_up, turn}
@@ -26,11 +28,14 @@ use Rattle.moves.specs.declared.Move.{Move}
 use Rattle.moves.specs.declared.Move.TheVariants.{Goes, Sets, Spawns, Gives, Waits, Ends, Lacks}
 use Rattle.moves.specs.contracts.Move.{the_type}
 use Rattle.count.specs.declared.Count.{Count}
+use Rattle.count.specs.declared.Bounds.{Bounds}
 use Rattle.count.specs.declared.Stop.{Stop}
 use Rattle.count.specs.Along.{ending_of, is_more, Along, Ended}
 use Rattle.count.proofs.Stops.{more_none, ends_of}
 use Rattle.count.proofs.Along.{along-start}
+use Rattle.active.specs.declared.Proceeded.{Proceeded}
 use Rattle.active.specs.Active.{leaves, busy, left_by, Active, Room, Left}
+use Rattle.idle.specs.declared.Tried as Tries-all
 use Rattle.idle.specs.Idle.{Idling, took_up, Tries}
 use Rattle.idle.proofs.Turning.{turned-length}
 use Rattle.idle.proofs.Trying.{first, first_entry, placed_at}
@@ -65,6 +70,16 @@ puts_back (Waits z) c h o = refl
 puts_back Ends c h o = absurd (⊎_elim (λ e. omega (arith, e)) (⊎_elim (λ e. omega (arith, e)) (⊎_elim (λ e. omega (arith, e)) (⊎_elim (λ e. omega (arith, e)) (λ e. omega (arith, e))))) o)
 puts_back Lacks c h o = absurd (false≢true h)
 
+-- so where the move is known by what it is not
+pub puts_back_else : (m : Move) (c : R.State) → leaves m ≡ true → ((n p : ℕ) (z : ℤ) (k : ℕ) → m ≡ Spawns n p z k → ⊥) → (m ≡ Ends → ⊥) → put_back c.active c ≡ left_by m c
+puts_back_else (Goes k) c h s e = absurd (false≢true h)
+puts_back_else (Sets n z k) c h s e = absurd (false≢true h)
+puts_back_else (Spawns n p z k) c h s e = absurd (s n p z k refl)
+puts_back_else (Gives k) c h s e = refl
+puts_back_else (Waits z) c h s e = refl
+puts_back_else Ends c h s e = absurd (e refl)
+puts_back_else Lacks c h s e = absurd (false≢true h)
+
 -- where none is turned
 pub no_turn : (n : ℕ) (s : State) → n ≡ 0 → view s ≡ turn n (view s)
 no_turn zero s h = refl
@@ -81,6 +96,22 @@ pub record Came (table : List ℕ) (s₀ : State) (budget : ℕ) (log₀ : List 
   pub leaves_so : ending_of stop ≡ none → (leaves m ≡ true) × Room m s.queued s.issued × (n.steps < n'.steps)
   pub on : s.active ≡ true
   pub fine_state : Fine s
+
+-- the state with the task and the variables that `proceed` leaves
+abbrev pub left_with : State → Task → List ℤ → State
+left_with s t v = record {
+  issued = s.issued;
+  active = s.active;
+  current = t;
+  front = s.front;
+  queued = s.queued;
+  queue = s.queue;
+  variables = v;
+}
+
+-- what the steps up to the next change of the queue go by, in the state s
+abbrev pub bounds_in : State → ℕ → Bounds
+bounds_in s budget = record { queued = s.queued; issued = s.issued; budget = budget }
 
 -- what the tries came to, with the state s before them
 pub record Tried (table : List ℕ) (s₀ : State) (budget : ℕ) (log₀ : List ℕ) (n : Count) (s : State) (stop : Stop) (n' : Count) (log' : List ℕ) (turns : ℕ) : Type 0 where
@@ -118,6 +149,29 @@ module _ {table : List ℕ} {s₀ : State} {budget : ℕ} {log₀ : List ℕ} wh
       front_fits = d.fine_state.front_fits;
       reached = record { call = call table s₀ budget log₀; given = log₀; along = along-idle h };
     }
+
+    -- what `proceed` ensures, with the bounds of this state
+    pub came : (b : Bounds) (p : Proceeded) (v : List ℤ) (log' : List ℕ) → b ≡ bounds_in s budget → s.active ≡ true
+        → (ending_of p.stop ≡ none → (leaves p.last ≡ true) × Room p.last b.queued b.issued × (n.steps < p.count.steps))
+        → ((u : Run (recipes (recipe_of table))) (given : List ℕ) (q : List (R.Task ℕ)) → length q ≡ b.queued
+            → Along (recipe_of table) u b.budget given n log (busy b.issued s.variables (task_of s.current) q)
+            → Left (recipe_of table) u b.budget given p.count log' p.last (busy b.issued v (task_of p.task) q) (ending_of p.stop))
+        → Came table s₀ budget log₀ n (left_with s p.task v) p.stop p.count log' p.last
+    came b p v log' e on so left = record {
+      left = (rw e at left) _ _ (queue_of s.queue s.front s.queued) (queue-length s.queue s.front s.queued) (along-busy on);
+      leaves_so = rw e at so;
+      on = on;
+      fine_state = record { front_fits = d.fine_state.front_fits; few = d.fine_state.few };
+    }
+
+    -- what `try_all` ensures, with the bounds of this state
+    pub tried : (b : Bounds) (w : Tries-all.Tried) (log' : List ℕ) → b ≡ bounds_in s budget → s.active ≡ false
+        → (w.turns ≤ b.queued) × (ending_of w.stop ≡ none → (w.turns < b.queued) × (n.steps < w.count.steps))
+        → ((u : Run (recipes (recipe_of table))) (given : List ℕ) → Along (recipe_of table) u b.budget given n log (idle b.issued s.variables s.queue s.front b.queued)
+            → Tries (recipe_of table) u b.budget given w.count log' (turn w.turns (idle b.issued s.variables s.queue s.front b.queued)) (ending_of w.stop))
+        → Tried table s₀ budget log₀ n s w.stop w.count log' w.turns × (w.turns ≤ s.queued)
+    tried b w log' e off some tries =
+        (record { tries = (rw e at tries) _ _ (along-idle off); further = (rw e at some).1; off = off }, (rw e at some).0)
 
   module _ {n : Count} {s : State} {stop : Stop} {n' : Count} {log' : List ℕ} {m : Move} (c : Came table s₀ budget log₀ n s stop n' log' m) where
     pub came_ends : is_more stop ≡ false → Drives table s₀ budget log₀ log' (record { stop = stop; count = n'; state = s })

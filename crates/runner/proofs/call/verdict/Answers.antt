@@ -1,3 +1,5 @@
+use Prim.Native.Nat.{ℕ}
+use mathlib.Core.List.{List}
 use mathlib.Core.Path.{◌≡◌, refl, sym, ap, ◌∙◌}
 use Rattle.rules.specs.Table as T
 use Rattle.rules.specs.Table.{fine, check, ◌else◌, recipe_of}
@@ -6,29 +8,21 @@ use Rattle.rules.specs.State.{check_block}
 use Rattle.rules.specs.Answers.{of_table}
 use Rattle.rules.proofs.Answers.{check-number}
 use Rattle.table.proofs.Told.{none_told, fault-told}
-use borrow.Author.Rules.{rules}
 use Rattle.runner.proofs.call.verdict.Goals as goal
 
 -- the verdict on the block comes after the table's
-abbrev then-block : goal.Start → T.Verdict → T.Verdict
-then-block c v = v else check_block (is_place (recipe_of c.args.table.now)) c.args.state.now
-
--- the table has no fault
-passed : (c : goal.Else-v-ne0) → check c.args.table.now ≡ fine
-passed c =
-
-    none_told of_table c.check_table-v.result c.check_table-v.ensures (check-number c.args.table.now) refl c.if-v-ne0.false
-
-pub check_table-v-requires : goal.check_table-v-requires
-check_table-v-requires c = search rules
+abbrev then_block : (table state : List ℕ) → T.Verdict → T.Verdict
+then_block t b v = v else check_block (is_place (recipe_of t)) b
 
 pub returns-then-v-ne0 : goal.returns-then-v-ne0
 returns-then-v-ne0 c =
     let f = fault-told c.check_table-v.result c.if-v-ne0.true in
-    f ∙ sym (ap (then-block c.before.before.before.before.before) (sym c.check_table-v.ensures ∙ f))
+    f ∙ sym (ap (then_block c.args.table.now c.args.state.now) (sym c.check_table-v.ensures ∙ f))
 
 pub check-requires : goal.check-requires
-check-requires c = passed c
+check-requires c =
+    none_told of_table c.check_table-v.result c.check_table-v.ensures (check-number c.args.table.now) refl c.if-v-ne0.false
 
 pub returns : goal.returns
-returns c =     c.check.ensures ∙ sym (ap (then-block c.before.before.before.before.before.before) (passed c.before))
+returns c =
+    c.check.ensures ∙ sym (ap (then_block c.args.table.now c.args.state.now) (none_told of_table c.check_table-v.result c.check_table-v.ensures (check-number c.args.table.now) refl c.if-v-ne0.false))

@@ -1,31 +1,31 @@
-use Prim.Native.Nat.{ℕ}
+use Prim.Native.Nat.{ℕ, ◌<◌}
+use mathlib.Core.List.{List}
+use lib.ListN.{get_or}
 use mathlib.Core.Path.{◌≡◌, refl, sym, ap, subst}
 use native.Mathlib.Omega.{arith}
 use Rattle.rules.specs.Table.{recipe_of}
 use Rattle.rules.specs.Places.{at}
 use Rattle.rules.specs.State as R
 use Rattle.rules.specs.Steps.{go_to, past_at}
-use Rattle.state.specs.View.{task_of, ring, entry}
-use borrow.Author.Rules.{rules}
+use Rattle.state.specs.View.{task_of, unpacked, ring, entry}
 use Rattle.runner.proofs.drive.onward.Goals as goal
 
 -- the front, as it stands in the queue
-stood : (c : goal.After-unpack-t) → let a = c.args in task_of c.unpack-t.result ≡ entry a.queue.now a.front 0
-stood c =
-
-    let k : ring c.args.front 0 ≡ c.args.front = omega (arith, c.requires.front_fits) in
-    rw k c.unpack-t.ensures
-
-pub offset_bounds-queue-front : goal.offset_bounds-queue-front
-offset_bounds-queue-front c = search rules
-
-pub bounds-queue-front : goal.bounds-queue-front
-bounds-queue-front c = search rules
-
-pub unpack-t-requires : goal.unpack-t-requires
-unpack-t-requires c = search rules
+stood : (queue : List ℕ) (front : ℕ) (t : R.Task ℕ) → front < 32 → t ≡ unpacked (get_or queue front 0) → t ≡ entry queue front 0
+stood queue front t h e = let k : ring front 0 ≡ front = omega arith in rw k e
 
 pub past-requires : goal.past-requires
-past-requires c =     let given = c.requires in
-    (given.accepted, rw (ap (λ (t : R.Task ℕ). t.place) (stood c)) given.placed, given.leads)
+past-requires c =
+    let given = c.requires in
+    let s = stood c.args.queue.now c.args.front _ given.front_fits c.unpack-t.ensures in
+    (given.accepted, rw (ap (λ (t : R.Task ℕ). t.place) s) given.placed, given.leads)
 
+pub returns : goal.returns
+returns c =
+    let r = recipe_of c.args.table.now in
+    let place = c.past.result in
+    let s = stood c.args.queue.now c.args.front _ c.requires.front_fits c.unpack-t.ensures in
+    record {
+      result_value = subst (λ (t : R.Task ℕ). go_to (task_of c.unpack-t.result) place ≡ past_at (at r t.place) t) s (sym (c.past.ensures (task_of c.unpack-t.result) refl));
+      result_value_2 = ap (λ (t : R.Task ℕ). go_to t place) s;
+    }
