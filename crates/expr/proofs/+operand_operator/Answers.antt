@@ -1,8 +1,7 @@
 -- The value of an expression, by recursion over its operands: the measure is twice the part's length, and one more for an operand.
 -- Assumes nothing.
-use Prim.Native.Nat.{ℕ, ◌+◌, ◌*◌, ◌<◌}
+use Prim.Native.Nat.{ℕ}
 use mathlib.Core.Path.{◌≡◌, sym, ap, ◌∙◌}
-use mathlib.Core.Logic.{⊎_elim}
 use mathlib.Core.Bool.{true, false≢true}
 use mathlib.Core.Option.{none, some}
 use native.Mathlib.Omega.{arith}
@@ -10,12 +9,9 @@ use lib.IntN.{ℤ}
 use lib.ListN.{length}
 use mir.Facts.{to_z-of_z}
 use Rattle.rules.specs.Values.{is_zero, quotient, apply1, apply2}
-use Rattle.rules.specs.Recipe.{value}
-use Rattle.rules.specs.Table.{name_of, expr_of}
 use Rattle.rules.proofs.NoValue.{no_result}
 use Rattle.values.proofs.Exact.{fits32, result32, applied1, found2}
 use Rattle.values.proofs.Zero.{is-zero, not-zero}
-use Rattle.expr.specs.Evaluated.{evaluated}
 use Rattle.expr.proofs.Reading.{whole, inner_shorter, after_shorter, holds, value-one, value-two, value_none}
 use Rattle.expr.proofs.+operand_operator.Goals as goal
 use Rattle.expr.proofs.+operand_operator.Goals.{operator-then-op-eq3+else-b-eq0, operator-else-op-eq3}
@@ -91,7 +87,7 @@ operator-apply2-requires t c = λ h.
     let (three, zero) = no_result _ _ _ h in
     let b = sym (result32 {z = c.in-Value-operand.b} (omega arith)) ∙ zero in
     elim c.if-op-eq3.branch [
-        operator-then-op-eq3+else-b-eq0 w ↦ false≢true (sym (not-zero c.in-Value-operand.b w.if-b-eq0.false) ∙ ap is_zero b)
+      | operator-then-op-eq3+else-b-eq0 w ↦ false≢true (sym (not-zero c.in-Value-operand.b w.if-b-eq0.false) ∙ ap is_zero b)
       | operator-else-op-eq3 w ↦ w.if-op-eq3.false three
     ]
 

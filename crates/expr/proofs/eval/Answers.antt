@@ -15,7 +15,6 @@ operator-requires c = (c.requires, omega (arith, c.if-part-ge11.true))
 
 pub returns-in_default : goal.returns-in_default
 returns-in_default c =
-
     ap evaluated (sym c.in_default.is) ∙ (rw (to_z-of_z c.ranges.parameter) at c.operator.ensures)
 
 pub leaf-requires : goal.leaf-requires

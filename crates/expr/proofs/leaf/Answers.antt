@@ -20,10 +20,9 @@ pub bounds-part-1 : goal.bounds-part-1
 bounds-part-1 c = omega (arith, whole c.requires.0)
 
 pub variable-requires : goal.variable-requires
-variable-requires c =     let p = c.requires in
+variable-requires c = let p = c.requires in
     (holds p.0).variable-named ((holds p.0).leaf_is p.1 c.if-part-eq9.false)
 
 pub returns : goal.returns
 returns c =
-
     ap some (result32 c.variable.type_inv ∙ (rw (to_z-of_z c.ranges.parameter) at c.variable.ensures)) ∙ value-variable _ c.requires.0 ((holds c.requires.0).leaf_is c.requires.1 c.if-part-eq9.false)

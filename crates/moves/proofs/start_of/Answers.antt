@@ -6,7 +6,7 @@ use Rattle.moves.proofs.Parts.{procedure-is, procedure-small}
 use Rattle.moves.proofs.start_of.Goals as goal
 
 pub bounds-starts-procedure : goal.bounds-starts-procedure
-bounds-starts-procedure c =     let g = c.requires in
+bounds-starts-procedure c = let g = c.requires in
     omega (arith, c.word_of-procedure.ensures.0, procedure-small g.0 g.1)
 
 pub returns : goal.returns
