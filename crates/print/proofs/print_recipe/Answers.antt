@@ -9,7 +9,6 @@ use Rattle.text.specs.Puts.{Puts}
 use Rattle.text.proofs.Buffers as buffers
 use Rattle.text.proofs.Buffers.{first}
 use Rattle.print.specs.Counts.{Counts}
-use borrow.Author.Rules.{rules}
 use Rattle.print.proofs.print_recipe.Goals as goal
 
 counts : {b b' : List ℕ} {r : ℕ} {x : List ℕ} → Puts b 0 x r b' → Counts r b'
@@ -17,15 +16,6 @@ counts {b} {b'} {r} p =
     let h : r ≤ length b' = omega (arith, p.inside, buffers.same_length p) in
     (h, sym (length-take-le r b' h))
 
-pub slice_bounds-put_text-end-2 : goal.slice_bounds-put_text-end-2
-slice_bounds-put_text-end-2 c = search rules
-
-pub slice_bounds-put_text-end-3 : goal.slice_bounds-put_text-end-3
-slice_bounds-put_text-end-3 c = search rules
-
-pub put_text-requires : goal.put_text-requires
-put_text-requires c = search rules
-
 pub returns : goal.returns
 unfolding printed
-returns c = let p = c.put_text.ensures in (first p, counts p)
+returns c = let p = c.put_text.ensures in record { value = first p; counts = counts p }

@@ -11,30 +11,23 @@ use Rattle.print.proofs.put_lines.Goals as goal
 pub loop-i-init : goal.loop-i-init
 loop-i-init c = (omega arith, omega arith, reads_as (sym (lines_none c.args.log.now)) (none c.args.b.now))
 
-pub overflow_mul-i : goal.overflow_mul-i
-overflow_mul-i c = omega arith
-
 pub put_record-at-requires : goal.put_record-at-requires
 put_record-at-requires c =
-    (omega (arith, c.requires.0), omega (arith, c.requires.1, buffers.same_length c.loop-i.invariant.2))
-
-pub overflow_add-i : goal.overflow_add-i
-overflow_add-i c = omega arith
-
-pub loop-i-smaller : goal.loop-i-smaller
-loop-i-smaller c = omega arith
+    record { from_in_bounds = omega arith; at_in_bounds = omega (arith, buffers.same_length c.loop-i.invariant.2) }
 
 pub loop-i-preserved : goal.loop-i-preserved
-loop-i-preserved c =     let l = c.loop-i in
+loop-i-preserved c =
+    let l = c.loop-i in
     let p = c.put_record-at.ensures in
     let s = c.args.log.now in
-    (omega arith, omega (arith, p.1), reads_as (sym (lines_more s l.i)) (then l.invariant.2 p.0))
+    (omega arith, omega (arith, p.upper_bound), reads_as (sym (lines_more s l.i)) (then l.invariant.2 p.puts))
 
 pub shape_of-b : goal.shape_of-b
 shape_of-b c = buffers.same_length c.loop-i.invariant.2
 
 pub returns : goal.returns
-returns c =     let l = c.loop-i in
+returns c =
+    let l = c.loop-i in
     let a = c.args in
     let e : l.i ≡ a.records = omega arith in
-    (reads_as (ap (λ (n : ℕ). lines a.log.now n) e) l.invariant.2, omega arith)
+    record { puts = reads_as (ap (λ (n : ℕ). lines a.log.now n) e) l.invariant.2; upper_bound = omega arith }
