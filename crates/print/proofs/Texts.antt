@@ -36,7 +36,7 @@ lines_none l = refl
 
 pub lines_more : (l : List ℕ) (n : ℕ) → lines l (n + 1) ≡ lines l n ++ line_at l (8 * n)
 unfolding joined
-lines_more l n = rw add-one refl
+lines_more l n = rw (add-one n)
 
 -- ---- runs
 

@@ -1,8 +1,7 @@
-use Prim.Native.Nat.{ℕ, ◌*◌, ◌-◌, ◌≤◌}
+use Prim.Native.Nat.{ℕ}
 use mathlib.Core.Path.{◌≡◌, sym, ap}
 use native.Mathlib.Omega.{arith}
 use Rattle.rules.specs.Print.{lines}
-use Rattle.text.specs.Puts.{Puts}
 use Rattle.text.proofs.Buffers as buffers
 use Rattle.text.proofs.Buffers.{none, reads_as, then}
 use Rattle.print.proofs.Texts.{lines_none, lines_more}

@@ -1,11 +1,6 @@
-use Prim.Native.Nat.{ℕ, ◌*◌, ◌-◌, ◌≤◌}
-use mathlib.Core.Path.{◌≡◌, sym, ap}
-use native.Mathlib.Omega.{arith}
+use Prim.Native.Nat.{◌*◌, ◌-◌, ◌≤◌}
 use Rattle.rules.specs.Print.{lines}
 use Rattle.text.specs.Puts.{Puts}
-use Rattle.text.proofs.Buffers as buffers
-use Rattle.text.proofs.Buffers.{none, reads_as, then}
-use Rattle.print.proofs.Texts.{lines_none, lines_more}
 use Rattle.print.proofs.put_lines.Given as goal
 
 abbrev pub invariant-loop-i : goal.invariant-loop-i
