@@ -1,6 +1,6 @@
 use Prim.Native.Nat.{ℕ, suc, ◌+◌, ◌-◌, ◌≤◌, ◌<◌}
-use mathlib.Core.Path.{◌≡◌, refl, sym, ap, ap₂, ◌∙◌, subst, subst⁻¹, subst₂}
-use mathlib.Core.Bool.{true, false}
+use mathlib.Core.Path.{◌≡◌, refl, sym, ap, ap₂, ◌∙◌, subst, subst⁻¹}
+use mathlib.Core.Bool.{Bool, true, false}
 use mathlib.Core.Option.{Option, some}
 use mathlib.Core.List.{List, [], ◌∷◌, ◌++◌}
 use native.Mathlib.Omega.{arith}
@@ -8,163 +8,166 @@ use native.Mathlib.Numerals.{add-one}
 use lib.IntN.{ℤ}
 use lib.ListN.{length, take, set, length-set}
 use lib.Seq.{take-suc-set}
-use borrow.Author.Rules.{rules}
+use Rattle.rules.specs.Recipe.{Recipe}
 use Rattle.rules.specs.Table.{recipe_of}
 use Rattle.rules.specs.State.{Task, State}
 use Rattle.rules.specs.Scheduler.{Readiness, is_ready, can_go}
 use Rattle.rules.specs.Steps.{recipes}
 use Rattle.rules.specs.Why.{Chain, chain, among, follow}
-use Rattle.state.specs.View.{task_of, entry, queue_of}
-use Rattle.ready.specs.Ready.{readiness_of, idle}
+use Rattle.state.specs.View.{entry, queue_of}
+use Rattle.ready.specs.declared.Queued.{Queued}
+use Rattle.ready.specs.Ready.{readiness_of, idle, Describes}
 use Rattle.ready.proofs.Queue.{every_at}
 use Rattle.why.specs.declared.follow.Chain.{Chain as Chained}
 use Rattle.why.specs.declared.follow.End.{End}
 use Rattle.why.specs.declared.follow.Holder.{Holder}
 use Rattle.why.specs.declared.follow.End.TheVariants.{NamedEarlier, NeverIssued, UntrueGuard}
-use Rattle.why.specs.Follow.{end_of, chain_in, goes_on, Within, Holds, Following}
+use Rattle.why.specs.declared.follow.Holder.TheVariants as H
+use Rattle.why.specs.Follow.{end_of, chain_in, goes_on, Holds, Following}
 use Rattle.why.proofs.Following.{closes, leads, more_left}
 use Rattle.why.proofs.follow.follow.Invariants.{start}
 use Rattle.why.proofs.follow.follow.Goals as goal
 
 -- no queued task can go on
-none-goes : {table queue : List ℕ} {front queued : ℕ} {c : State} → Following table c queue front queued → {i : ℕ} → i < queued → can_go (recipes (recipe_of table)) c (entry queue front i) ≡ false
+none_goes : {table queue : List ℕ} {front queued : ℕ} {c : State} → Following table c queue front queued → {i : ℕ} → i < queued → can_go (recipes (recipe_of table)) c (entry queue front i) ≡ false
 unfolding queue_of
-none-goes {table} {queue} {front} {queued} {c} p {i} h = every_at (λ t. can_go (recipes (recipe_of table)) c t ≡ false) (entry queue front) queued p.none_ready i h
+none_goes {table} {queue} {front} {queued} {c} p {i} h = every_at (λ t. can_go (recipes (recipe_of table)) c t ≡ false) (entry queue front) queued p.none_ready i h
 
-abbrev from_front : (c : goal.At-loop-x → Option Chain
-from_front c = let a = c.before.before.args in start a.table.now a.queue.now a.front a.queued a.issued a.variables.now
+-- the loop has come to the task `at`, with n numbers written, and x is what is said of this task
+module _ {table queue : List ℕ} {front queued issued : ℕ} {variables : List ℤ}
+    (p : Following table (idle issued variables queue front queued) queue front queued)
+    (at n : ℕ) (numbers : List ℕ)
+    (come : (at < queued) × (n ≤ queued) × (length numbers ≡ 33)
+        × (follow (recipes (recipe_of table)) (suc queued - n) (idle issued variables queue front queued) (take n numbers) (entry queue front at) ≡ start table queue front queued issued variables))
+    {x : Queued} (d : Describes table issued variables queue front queued at x) where
+  abbrev r : Recipe
+  r = recipe_of table
 
--- the task at hand, and the numbers with its own
-abbrev task : (c : goal.At-loop-x → Task ℕ
-task c = let a = c.before.before.args in entry a.queue.now a.front c.loop.at
+  abbrev c : State
+  c = idle issued variables queue front queued
 
-abbrev named : (c : goal.At-loop-x → List ℕ
-named c = take c.loop.n c.loop.numbers ++ (task c).number ∷ []
+  -- its chain from the front on
+  abbrev from : Option Chain
+  from = start table queue front queued issued variables
 
-number_is : (c : goal.After-waiting_at-x → c.waiting-at.result.task.number ≡ (task c.before).number
-number_is c = ap (λ (t : Task ℕ). t.number) c.waiting-at.ensures.task_is
+  -- the task at hand, and the numbers with its own
+  abbrev task : Task ℕ
+  task = entry queue front at
 
-stored : (c : goal.After-waiting_at-x → let l = c.before in
-    take (l.loop.n + 1) (set l.loop.numbers l.loop.n c.waiting-at.result.task.number) ≡ named l
-stored c =
-    let l = c.before in
-    let n = l.loop.n in
-    ap (λ (k : ℕ). take k (set l.loop.numbers n c.waiting-at.result.task.number)) (add-one n)
-    ∙ take-suc-set l.loop.numbers n c.waiting-at.result.task.number (omega (arith, room l, l.loop.invariant.2))
-    ∙ ap (λ (k : ℕ). take n l.loop.numbers ++ k ∷ []) (number_is c)
+  abbrev named : List ℕ
+  named = take n numbers ++ task.number ∷ []
 
--- whether it was named before
-told : (c : goal.After-is_named-earlier → let l = c.before.before.before.before in
-    c.is-named.result ≡ among (task l).number (take l.loop.n l.loop.numbers)
-told c =
-    let w = c.before.before.before in
-    let l = w.before in
-    c.is-named.ensures ∙ ap (λ (k : ℕ). among k (take l.loop.n l.loop.numbers)) (number_is w)
+  -- the numbers fit
+  room : n < 33
+  room = let few = p.waiting.few in let e = come.1 in omega arith
 
--- a chain that ends here
-ends_so : (c : goal.After-waiting_at-x (e : End) (x : Chained) → let l = c.before in
-    x ≡ record { numbers = set l.loop.numbers l.loop.n c.waiting-at.result.task.number; count = l.loop.n + 1; end = e } → from_front l ≡ chain (named l) (end_of e)
-    → (from_front l ≡ some (chain_in x)) × ((x.count ≤ 33) × (length x.numbers ≡ 33))
-ends_so c e x is h =
-    let l = c.before in
-    subst⁻¹ (λ (y : Chained). (from_front l ≡ some (chain_in y)) × ((y.count ≤ 33) × (length y.numbers ≡ 33))) is
-    (h ∙ ap (λ (ns : List ℕ). chain ns (end_of e)) (sym (stored c)), (room-more l, length-set l.loop.numbers l.loop.n c.waiting-at.result.task.number ∙ l.loop.invariant.2))
+  number_is : x.task.number ≡ task.number
+  number_is = ap (λ (t : Task ℕ). t.number) d.task_is
 
--- what follows behind it
-behind_it : (c : goal.After-held_by-holder (x : Holder) → c.held_by.result ≡ x → let l = c.before.before.before.before.before.before in let a = l.before.before.args in
-    from_front l ≡ goes_on a.queue.now a.front (λ u. follow (recipes (recipe_of a.table.now)) (a.queued - l.loop.n) (state l) (named l) u) (named l) x
-behind_it c x e =
-    let k = c.before.before in
-    let w = k.before.before.before in
-    let l = w.before in
-    let a = l.before.before.args in
-    leads (recipe_of a.table.now) (state l) l.loop.n a.queued (take l.loop.n l.loop.numbers) (task l) l.loop.invariant.1 (from_front l) l.loop.invariant.3
-    a.queue.now a.front x (sym (told k) ∙ c.before.if1.false) refl
-    (subst₂ (λ (v : Readiness) (y : Holder). Holds a.queue.now a.front a.queued v y) w.waiting-at.ensures.wait_is e c.held_by.ensures)
+  stored : take (n + 1) (set numbers n x.task.number) ≡ named
+  stored =
+      ap (λ (k : ℕ). take k (set numbers n x.task.number)) (add-one n)
+      ∙ take-suc-set numbers n x.task.number (let h = room in let l = come.2 in omega arith)
+      ∙ ap (λ (k : ℕ). take n numbers ++ k ∷ []) number_is
 
--- it goes on with a queued task
-goes_on_holds : (c : goal.In-Task → let l = c.before.before.before.before.before.before.before.before.before in let a = l.before.before.args in
-    from_front l ≡ follow (recipes (recipe_of a.table.now)) (a.queued - l.loop.n) (state l) (named l) (entry a.queue.now a.front c.before.holder.given.0.0)
-goes_on_holds c = behind_it c.before.before.before _ c.before.holder.given.1
+  sized : length (set numbers n x.task.number) ≡ 33
+  sized = length-set numbers n x.task.number ∙ come.2
+
+  -- whether it was named before
+  told : {b : Bool} → b ≡ among x.task.number (take n numbers) → b ≡ among task.number (take n numbers)
+  told e = e ∙ ap (λ (k : ℕ). among k (take n numbers)) number_is
+
+  -- a chain that ends here
+  ends_so : (e : End) (y : Chained) → y ≡ record { numbers = set numbers n x.task.number; count = n + 1; end = e } → from ≡ chain named (end_of e)
+      → (from ≡ some (chain_in y)) × ((y.count ≤ 33) × (length y.numbers ≡ 33))
+  ends_so e y is h =
+      let fits : n + 1 ≤ 33 = let few = room in omega arith in
+      subst⁻¹ (λ (y : Chained). (from ≡ some (chain_in y)) × ((y.count ≤ 33) × (length y.numbers ≡ 33))) is
+      (h ∙ ap (λ (ns : List ℕ). chain ns (end_of e)) (sym stored), (fits, sized))
+
+  ends_again : (y : Chained) → y ≡ record { numbers = set numbers n x.task.number; count = n + 1; end = NamedEarlier } → {b : Bool} → b ≡ among x.task.number (take n numbers) → b ≡ true
+      → (from ≡ some (chain_in y)) × ((y.count ≤ 33) × (length y.numbers ≡ 33))
+  ends_again y is e h = ends_so NamedEarlier y is (closes r c n queued (take n numbers) task come.1 from come.3 (sym (told e) ∙ h))
+
+  -- it was not named before: what follows behind it
+  module _ {b : Bool} (e : b ≡ among x.task.number (take n numbers)) (new : b ≡ false) {h : Holder} (held : Holds queue front queued (readiness_of x.wait) h) where
+    behind_it : from ≡ goes_on queue front (λ u. follow (recipes r) (queued - n) c named u) named h
+    behind_it =
+        leads r c n queued (take n numbers) task come.1 from come.3 queue front h (sym (told e) ∙ new) refl
+        (subst (λ (v : Readiness). Holds queue front queued v h) d.wait_is held)
+
+  -- it goes on with a queued task
+  further : {b : Bool} → b ≡ among x.task.number (take n numbers) → b ≡ false → (i : ℕ) → Holds queue front queued (readiness_of x.wait) (H.Task i)
+      → (i < queued) × (n + 1 ≤ queued) × (length (set numbers n x.task.number) ≡ 33)
+      × (follow (recipes r) (suc queued - (n + 1)) c (take (n + 1) (set numbers n x.task.number)) (entry queue front i) ≡ from)
+  further e new i held =
+      let t = entry queue front i in
+      let on = behind_it e new held in
+      let more = more_left r c n queued named t p.found come.1 (sym on ∙ p.is_found) in
+      let left : suc queued - (n + 1) ≡ queued - n = omega arith in (
+        held.within,
+        omega arith,
+        sized,
+        ap₂ (λ (k : ℕ) (ns : List ℕ). follow (recipes r) k c ns t) left stored ∙ sym on,
+      )
 
 pub loop-x-init : goal.loop-x-init
-loop-x-init c =     let a = c.args in
+loop-x-init c =
+    let a = c.args in
     let p = c.requires in
     let e : suc a.queued - 0 ≡ suc a.queued = omega arith in
     (p.some_queued, omega arith, refl {a = 33}, ap (λ (k : ℕ). follow (recipes (recipe_of a.table.now)) k (idle a.issued a.variables.now a.queue.now a.front a.queued) [] (entry a.queue.now a.front 0)) e)
 
 pub waiting_at-x-requires : goal.waiting_at-x-requires
-waiting_at-x-requires c =     let p = c.requires in
-    (p.waiting, c.loop-x.invariant.0, none-goes p c.loop-x.invariant.0)
+waiting_at-x-requires c = (c.requires.waiting, c.loop-x.invariant.0, none_goes c.requires c.loop-x.invariant.0)
 
 pub is_named-earlier-requires : goal.is_named-earlier-requires
-is_named-earlier-requires c = let n = room c.before.before.before in (omega arith, c.loop-x.invariant.2)
-
-pub offset_bounds-numbers-n : goal.offset_bounds-numbers-n
-offset_bounds-numbers-n c = let n = room c.before.before.before.before in omega arith
+is_named-earlier-requires c =
+    let few = c.requires.waiting.few in
+    let some = c.loop-x.invariant.1 in
+    (omega arith, c.loop-x.invariant.2)
 
 pub bounds-numbers-n : goal.bounds-numbers-n
-bounds-numbers-n c = room c.before.before.before.before
+bounds-numbers-n c =
+    let few = c.requires.waiting.few in
+    let some = c.loop-x.invariant.1 in
+    omega arith
 
 pub overflow_add-n : goal.overflow_add-n
-overflow_add-n c = let n = room c.before.before.before.before in omega arith
-
-pub ended-requires : goal.ended-requires
-ended-requires c = search rules
+overflow_add-n c =
+    let few = c.requires.waiting.few in
+    let some = c.loop-x.invariant.1 in
+    omega arith
 
 pub returns-then-earlier : goal.returns-then-earlier
 returns-then-earlier c =
-
-    let a = c.args in
-    ends_so c.before.before.before.before.before NamedEarlier c.ended.result c.ended.ensures
-    (closes (recipe_of a.table.now) (state c.before.before.before.before.before.before) c.loop-x.n a.queued (take c.loop-x.n c.loop-x.numbers) (task c.before.before.before.before.before.before) c.loop-x.invariant.1 (from_front c.before.before.before.before.before.before) c.loop-x.invariant.3 (sym (told c.before.before) ∙ c.if-earlier.true))
+    let l = c.loop-x in
+    let e = ends_again c.requires l.at l.n l.numbers l.invariant c.waiting_at-x.ensures c.ended.result c.ended.ensures c.is_named-earlier.ensures c.if-earlier.true in
+    record { front_value = e.0; count_bound = e.1 }
 
 pub held_by-holder-requires : goal.held_by-holder-requires
 held_by-holder-requires c =
-
     let p = c.requires in
-    (p.waiting.front_fits, p.waiting.few, ap is_ready c.waiting_at-x.ensures.wait_is ∙ none-goes p c.loop-x.invariant.0)
-
-pub enum_known-holder : goal.enum_known-holder
-enum_known-holder c = search rules
+    (p.waiting.front_fits, p.waiting.few, ap is_ready c.waiting_at-x.ensures.wait_is ∙ none_goes p c.loop-x.invariant.0)
 
 pub loop-x-smaller : goal.loop-x-smaller
 loop-x-smaller c = let n = c.loop-x.invariant.1 in omega arith
 
 pub loop-x-preserved : goal.loop-x-preserved
 loop-x-preserved c =
-
-    let a = c.args in
-    let r = recipe_of a.table.now in
-    let n = c.loop-x.n in
-    let i = c.in-Task.next in
-    let t = entry a.queue.now a.front i in
-    let more = more_left r (state c.before.before.before.before.before.before.before.before.before) n a.queued (named c.before.before.before.before.before.before.before.before.before) t c.requires.found c.loop-x.invariant.1 (sym (goes_on_holds c) ∙ c.requires.is_found) in
-    let left : suc a.queued - (n + 1) ≡ a.queued - n = omega arith in (
-      subst (Within a.queued) c.in-Task.is c.held_by-holder.ensures.within,
-      omega arith,
-      length-set c.loop-x.numbers n c.waiting_at-x.result.task.number ∙ c.loop-x.invariant.2,
-      ap₂ (λ (k : ℕ) (ns : List ℕ). follow (recipes r) k (state c.before.before.before.before.before.before.before.before.before) ns t) left (stored c.before.before.before.before.before.before.before.before) ∙ sym (goes_on_holds c),
-    )
-
-pub enum_told-1 : goal.enum_told-1
-enum_told-1 c = search rules
-
-pub ended-requires-in-NeverIssued : goal.ended-requires-in-NeverIssued
-ended-requires-in-NeverIssued c = search rules
+    let l = c.loop-x in
+    further c.requires l.at l.n l.numbers l.invariant c.waiting_at-x.ensures c.is_named-earlier.ensures c.if-earlier.false c.in-Task.next c.in-Task.ensures
 
 pub returns-in-NeverIssued : goal.returns-in-NeverIssued
 returns-in-NeverIssued c =
-
-    ends_so c.before.before.before.before.before.before.before.before NeverIssued c.ended-in-NeverIssued.result c.ended-in-NeverIssued.ensures (behind_it c.before.before.before _ c.in-NeverIssued.is)
-
-pub enum_told-in-UntrueGuard : goal.enum_told-in-UntrueGuard
-enum_told-in-UntrueGuard c = search rules
-
-pub ended-requires-in-UntrueGuard : goal.ended-requires-in-UntrueGuard
-ended-requires-in-UntrueGuard c = search rules
+    let l = c.loop-x in
+    let b = behind_it c.requires l.at l.n l.numbers l.invariant c.waiting_at-x.ensures c.is_named-earlier.ensures c.if-earlier.false c.in-NeverIssued.ensures in
+    let e = ends_so c.requires l.at l.n l.numbers l.invariant c.waiting_at-x.ensures NeverIssued c.ended-in-NeverIssued.result c.ended-in-NeverIssued.ensures b in
+    record { front_value = e.0; count_bound = e.1 }
 
 pub returns-in-UntrueGuard : goal.returns-in-UntrueGuard
 returns-in-UntrueGuard c =
-
-    ends_so c.before.before.before.before.before.before.before.before UntrueGuard c.ended-in-UntrueGuard.result c.ended-in-UntrueGuard.ensures (behind_it c.before.before.before _ c.in-UntrueGuard.is)
+    let l = c.loop-x in
+    let b = behind_it c.requires l.at l.n l.numbers l.invariant c.waiting_at-x.ensures c.is_named-earlier.ensures c.if-earlier.false c.in-UntrueGuard.ensures in
+    let e = ends_so c.requires l.at l.n l.numbers l.invariant c.waiting_at-x.ensures UntrueGuard c.ended-in-UntrueGuard.result c.ended-in-UntrueGuard.ensures b in
+    record { front_value = e.0; count_bound = e.1 }
