@@ -5,55 +5,28 @@ use Rattle.state.specs.View.{view}
 use Rattle.why.specs.Follow.{chain_in}
 use Rattle.why.proofs.Stuck.{following, followed}
 use Rattle.why.proofs.Explaining.{wrong_length, not_stuck, chain-told}
-use borrow.Author.Rules.{rules}
-use borrow.Author.Tests.{not-true, not-false}
 use Rattle.why.proofs.explain.Goals as goal
-
-pub unexplained-requires : goal.unexplained-requires
-unexplained-requires c = search rules
 
 pub returns-then-chain-ne66 : goal.returns-then-chain-ne66
 returns-then-chain-ne66 c =
     let a = c.args in
     c.unexplained.ensures _ ∙ wrong_length (recipe_of a.table.now) (view a.s) a.chain.now c.if-chain-ne66.true
 
-pub is_stuck-requires : goal.is_stuck-requires
-is_stuck-requires c = search rules
-
-pub unexplained-requires-then-not-is_stuck : goal.unexplained-requires-then-not-is_stuck
-unexplained-requires-then-not-is_stuck c = search rules
-
 pub returns-then-not-is_stuck : goal.returns-then-not-is_stuck
 returns-then-not-is_stuck c =
-
     let a = c.args in
     c.unexplained-then-not-is_stuck.ensures _
-    ∙ not_stuck (recipe_of a.table.now) (view a.s) a.chain.now c.requires.2 c.if-chain-ne66.false (λ z. true≢false (sym (c.is_stuck.ensures.1 z) ∙ not-true _ c.if-not-is_stuck.true))
+    ∙ not_stuck (recipe_of a.table.now) (view a.s) a.chain.now c.requires.2 c.if-chain-ne66.false (λ z. true≢false (sym (c.is_stuck.ensures.1 z) ∙ c.if-not-is_stuck.true))
 
 pub follow-x-requires : goal.follow-x-requires
 follow-x-requires c =
-
-    following c.args.table.now c.args.s c.requires.0 c.requires.1 c.requires.2 (c.is_stuck.ensures.0 (not-false _ c.if-not-is_stuck.false))
-
-pub put_numbers-requires : goal.put_numbers-requires
-put_numbers-requires c = search rules
-
-pub overflow_cast-result : goal.overflow_cast-result
-overflow_cast-result c = search rules
-
-pub end_number-requires : goal.end_number-requires
-end_number-requires c = search rules
-
-pub shape_of-chain : goal.shape_of-chain
-shape_of-chain c = search rules
+    following c.args.table.now c.args.s c.requires.0 c.requires.1 c.requires.2 (c.is_stuck.ensures.0 c.if-not-is_stuck.false)
 
 pub returns : goal.returns
 returns c =
-
-
     let a = c.args in
-    let stuck = c.is_stuck.ensures.0 (not-false _ c.if-not-is_stuck.false) in
+    let stuck = c.is_stuck.ensures.0 c.if-not-is_stuck.false in
     let x = c.follow-x.result in
-    let is = followed a.table.now a.s c.requires.0 c.requires.1 c.requires.2 stuck (chain_in x) c.follow-x.ensures.0 in
-    chain-told (recipe_of a.table.now) (view a.s) a.chain.now x c.follow-x.ensures.1.0 c.follow-x.ensures.1.1 c.if-chain-ne66.false is
+    let is = followed a.table.now a.s c.requires.0 c.requires.1 c.requires.2 stuck (chain_in x) c.follow-x.ensures.front_value in
+    chain-told (recipe_of a.table.now) (view a.s) a.chain.now x c.follow-x.ensures.count_bound.0 c.follow-x.ensures.count_bound.1 c.if-chain-ne66.false is
     c.end_number.result c.end_number.ensures _ c.put_numbers.ensures

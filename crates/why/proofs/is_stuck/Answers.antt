@@ -5,23 +5,14 @@ use Rattle.rules.specs.Scheduler.{number_of}
 use Rattle.links.proofs.Leading.{links_are}
 use Rattle.count.specs.Along.{goes_on}
 use Rattle.why.proofs.Stuck.{stuck_when}
-use borrow.Author.Rules.{rules}
 use Rattle.why.proofs.is_stuck.Goals as goal
-
-pub links-requires : goal.links-requires
-links-requires c = search rules
-
-pub slice_bounds-drive-end : goal.slice_bounds-drive-end
-slice_bounds-drive-end c = search rules
 
 pub drive-ran-requires : goal.drive-ran-requires
 drive-ran-requires c =
-
-
     let links = c.links.ensures in
     record {
       accepted = c.requires.0;
-      links = rw (links.0, links.1) (links_are c.args.table.now (λ i. omega (arith, c.type_inv.table i)) c.requires.0 _ _ refl refl);
+      links = rw (links.next_after, links.starts_after) (links_are c.args.table.now (λ i. omega (arith, c.type_inv.table i)) c.requires.0 _ _ refl refl);
       fine_state = c.requires.1;
       fits = c.requires.2;
     }
@@ -33,5 +24,5 @@ pub returns : goal.returns
 returns c =
     let a = c.args in
     let drives = c.drive-ran.ensures in
-    stuck_when a.table.now a.s _ c.number_of_lem.result
-    (some-injective _ _ (c.number_of_lem.ensures ∙ ap (map number_of) drives.stop_is) ∙ ap number_of (sym drives.ended.ends_so))
+    stuck_when a.table.now a.s 1 c.number_of.result
+    (some-injective _ _ (c.number_of.ensures ∙ ap (map number_of) drives.stop_is) ∙ ap number_of (sym drives.ended.ends_so))
