@@ -13,7 +13,7 @@ use lib.Seq.{drop-drop}
 use borrow.Author.Tests.{leb-true, eqb-true}
 use Rattle.rules.specs.Table as T
 use Rattle.rules.specs.Table.{Encloses, nothing, one_expression, expression_statements, two_expressions, kind_of, span_of, inner, after, kind_row, is_of, Sort, Ends, at_end, within, record_fault, Verdict, fine, fault, ◌else◌, enclosed, check_e, check_rows}
-use Rattle.rules.proofs.Grammar.Checking.{Right, right, right-whole, right-span, inside, row-empty, row-fault, row-deep, row_step, length-inner, length-after}
+use Rattle.rules.proofs.Grammar.Checking.{Right, right, right-whole, right-span, row-empty, row-fault, row-deep, row_step, length-inner, length-after}
 use Rattle.rules.proofs.Grammar.Accepting.{right_of}
 use Rattle.table.specs.Check.{Row, Part, Parted, OfRow, procedures, statements, code_of, enclosing, expr_inside, head_of, body_part, body_index, body, body_at}
 use Rattle.table.proofs.Columns.{every, at_each, due-kind, span_none, span-some}

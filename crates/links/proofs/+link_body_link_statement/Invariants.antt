@@ -1,15 +1,12 @@
 -- The measure is twice the levels left, and one more for a row. The loop's invariant: what is left of the row makes of the list, as it is,
 -- what it is to become.
 -- Assumes nothing.
-use Prim.Native.Nat.{ℕ, ◌+◌, ◌*◌, ◌<◌}
-use mathlib.Core.Path.{◌≡◌, refl, sym, ap, ◌∙◌}
-use native.Mathlib.Omega.{arith}
+use Prim.Native.Nat.{◌+◌, ◌*◌}
+use mathlib.Core.Path.{◌≡◌}
 use lib.ListN.{length}
-use Rattle.rules.specs.Table.{kind_of, body_of}
+use Rattle.rules.specs.Table.{body_of}
 use Rattle.rules.specs.Places.{points_b}
-use Rattle.rules.proofs.Grammar.Checking.{length-after}
-use Rattle.links.specs.Links.{linked, BodySpelt, body_follow}
-use Rattle.links.proofs.Linking.{linked-empty, Turn, turn, plain, Test, test}
+use Rattle.links.specs.Links.{linked, BodySpelt}
 use Rattle.links.proofs.+link_body_link_statement.Given as goal
 
 abbrev pub decreases-link_body : goal.decreases-link_body

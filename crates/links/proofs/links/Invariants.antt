@@ -1,13 +1,10 @@
 -- The loop's invariant: what is left of the table makes of the two lists, as they are, what they are to become.
 -- Assumes nothing.
-use mathlib.Core.Path.{ap}
-use native.Mathlib.Omega.{arith}
 use lib.ListN.{length}
 use Rattle.rules.specs.Table.{recipe_of}
 use Rattle.rules.specs.Places.{nowhere, points_r}
-use Rattle.rules.proofs.Grammar.Checking.{length-after}
 use Rattle.links.specs.Links.{linked, started}
-use Rattle.links.proofs.Procedures.{Left, left_all, left_none, Turn, turn}
+use Rattle.links.proofs.Procedures.{Left}
 use Rattle.links.proofs.links.Given as goal
 
 abbrev pub invariant-loop-rest : goal.invariant-loop-rest

@@ -5,10 +5,10 @@ use lib.ListN.{length, drop}
 use Rattle.rules.specs.Table as T
 use Rattle.rules.specs.Table.{span_of, Verdict, fine, check_rows}
 use Rattle.rules.proofs.Grammar.Checking.{row-empty}
-use Rattle.table.specs.Check.{sort_of, verdict_in, OfRow, statements, Part, Parted, code_of, enclosing, head_of, body, body_at}
+use Rattle.table.specs.Check.{sort_of, verdict_in, OfRow, statements, Part, code_of, enclosing, head_of, body, body_at}
 use Rattle.table.proofs.Told.{none_in, fault_in}
 use Rattle.table.proofs.Rows.{HeadFine, head_fine, parted, body-row, Left, left_end, left-part, left_head, left-inside, left-next, left_leaf}
-use Prim.Native.Nat.{ℕ, ◌+◌, ◌-◌, ◌*◌, ◌<◌}
+use Prim.Native.Nat.{ℕ, ◌-◌, ◌<◌}
 use Rattle.table.proofs.check.+check_rows.Goals as goal
 use Rattle.table.proofs.check.+check_rows.Goals.{then-body-gt0+else-inside-ne0, else-body-gt0}
 

@@ -5,7 +5,6 @@ use native.Mathlib.Omega.{arith}
 use Rattle.rules.specs.Table.{span_of}
 use Rattle.table.specs.Check.{enclosing}
 use Rattle.table.proofs.Rows.{is-test, at_statements, at_test, at_none}
-use borrow.Author.Rules.{rules}
 use Rattle.table.proofs.check.body_at.Goals as goal
 
 pub returns-then-code-eq1 : goal.returns-then-code-eq1

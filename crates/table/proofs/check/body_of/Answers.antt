@@ -2,7 +2,6 @@ use mathlib.Core.Path.{sym, ap, ◌∙◌}
 use Rattle.rules.specs.Table.{after}
 use Rattle.table.specs.Check.{enclosing}
 use Rattle.table.proofs.Rows.{is-test, body-statements, body-test, no_body}
-use borrow.Author.Rules.{rules}
 use Rattle.table.proofs.check.body_of.Goals as goal
 
 pub returns-then-code-eq1 : goal.returns-then-code-eq1

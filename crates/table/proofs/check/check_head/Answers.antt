@@ -1,10 +1,9 @@
 use mathlib.Core.Path.{◌≡◌, sym, ap, ◌∙◌}
-use Prim.Native.Nat.{ℕ, ◌+◌, ◌-◌, ◌≤◌}
-use mathlib.Core.List.{List}
+use Prim.Native.Nat.{◌≤◌}
 use native.Mathlib.Omega.{arith}
-use Rattle.rules.specs.Table.{inner, at_end, within, record_fault, check_e}
-use Rattle.rules.proofs.Grammar.Checking.{Right, right, right-whole}
-use Rattle.table.specs.Check.{sort_of, enclosing, code_of, Part}
+use Rattle.rules.specs.Table.{at_end, within, check_e}
+use Rattle.rules.proofs.Grammar.Checking.{right, right-whole}
+use Rattle.table.specs.Check.{sort_of, enclosing, code_of}
 use Rattle.table.proofs.Columns.{due-kind}
 use Rattle.table.proofs.Expressions.{inner-part}
 use Rattle.table.proofs.Rows.{head_own, head_none, head_below, expr-alone, expr-test, no_expr, some-span, row-enclosing}

@@ -1,9 +1,7 @@
-use mathlib.Core.Path.{◌≡◌, refl, sym, ap, ◌∙◌}
-use Prim.Native.Nat.{◌-◌, ◌*◌}
+use mathlib.Core.Path.{refl, sym, ap, ◌∙◌}
 use native.Mathlib.Omega.{arith}
-use lib.ListN.{length, drop}
-use Rattle.rules.specs.Table.{check_spawns, names_none, records}
-use Rattle.table.proofs.Whole.{Rest, rest-start, rest_some, rest-next, spawns-here, spawns-next, spawns-end}
+use Rattle.rules.specs.Table.{names_none}
+use Rattle.table.proofs.Whole.{rest-start, rest_some, rest-next, spawns-here, spawns-next, spawns-end}
 use Rattle.table.proofs.check.check_spawns.Goals as goal
 
 pub loop-off-init : goal.loop-off-init

@@ -1,9 +1,8 @@
-use mathlib.Core.Path.{◌≡◌, refl, sym, ap, ◌∙◌}
+use mathlib.Core.Path.{◌≡◌}
 use Prim.Native.Nat.{◌-◌, ◌*◌}
-use native.Mathlib.Omega.{arith}
 use lib.ListN.{length, drop}
-use Rattle.rules.specs.Table.{check_spawns, names_none, records}
-use Rattle.table.proofs.Whole.{Rest, rest-start, rest_some, rest-next, spawns-here, spawns-next, spawns-end}
+use Rattle.rules.specs.Table.{check_spawns, records}
+use Rattle.table.proofs.Whole.{Rest}
 use Rattle.table.proofs.check.check_spawns.Given as goal
 
 abbrev pub invariant-loop-off : goal.invariant-loop-off

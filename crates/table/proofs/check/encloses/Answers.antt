@@ -4,7 +4,6 @@ use Prim.Native.Nat.{ℕ}
 use lib.ListN.{get_or}
 use Rattle.table.specs.Check.{codes}
 use Rattle.table.proofs.Columns.{code}
-use borrow.Author.Rules.{rules}
 use Rattle.table.proofs.check.encloses.Goals as goal
 
 pub returns : goal.returns

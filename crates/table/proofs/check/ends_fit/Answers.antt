@@ -1,4 +1,3 @@
-use borrow.Author.Rules.{rules}
 use Rattle.table.proofs.check.ends_fit.Goals as goal
 
 pub returns-in-AtEnd : goal.returns-in-AtEnd

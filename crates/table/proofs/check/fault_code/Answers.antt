@@ -1,6 +1,5 @@
 use native.Mathlib.Omega.{arith}
 use Rattle.table.proofs.Told.{made_in}
-use borrow.Author.Rules.{rules}
 use Rattle.table.proofs.check.fault_code.Goals as goal
 
 pub returns : goal.returns

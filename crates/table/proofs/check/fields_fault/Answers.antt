@@ -1,8 +1,7 @@
 use mathlib.Core.Path.{sym, ap, ◌∙◌}
-use native.Mathlib.Omega.{arith}
 use Rattle.rules.specs.Table.{is_of}
 use Rattle.table.specs.Check.{sort_of}
-use Rattle.table.proofs.Columns.{due-kind, fault-kind, fault-span, fault-name, fault-value, fault_none}
+use Rattle.table.proofs.Columns.{fault-kind, fault-span, fault-name, fault-value, fault_none}
 use Rattle.table.proofs.check.fields_fault.Goals as goal
 
 pub returns-then-not-is_of : goal.returns-then-not-is_of

@@ -1,4 +1,3 @@
-use borrow.Author.Rules.{rules}
 use Rattle.table.proofs.check.is_of.Goals as goal
 
 pub returns-in-Procedure : goal.returns-in-Procedure

@@ -1,5 +1,4 @@
 use mathlib.Core.Path.{refl, sym, ◌∙◌}
-use borrow.Author.Rules.{rules}
 use Rattle.table.proofs.check.is_statement.Goals as goal
 
 pub returns-then-between : goal.returns-then-between

@@ -1,6 +1,5 @@
 use native.Mathlib.Omega.{arith}
 use Rattle.table.proofs.Whole.{magnitude_low, magnitude_high}
-use borrow.Author.Rules.{rules}
 use Rattle.table.proofs.check.magnitude.Goals as goal
 
 pub returns-then-word-lt2147483648 : goal.returns-then-word-lt2147483648

@@ -3,7 +3,6 @@ use mathlib.Core.List.{[], ◌∷◌}
 use borrow.Author.Tests.{ne_eqb}
 use Rattle.table.specs.Check.{name_leasts}
 use Rattle.table.proofs.Columns.{elsewhere}
-use borrow.Author.Rules.{rules}
 use Rattle.table.proofs.check.name_least.Goals as goal
 
 pub returns : goal.returns

@@ -4,7 +4,6 @@ use lib.Dec.{leb}
 use lib.IntN.{nat_abs}
 use Rattle.rules.specs.Fields.{signed}
 use borrow.Author.Tests.{ne_eqb, eq-eqb}
-use borrow.Author.Rules.{rules}
 use Rattle.table.proofs.check.names_none.Goals as goal
 
 pub returns-then-part-ne6 : goal.returns-then-part-ne6

@@ -1,10 +1,5 @@
-use mathlib.Core.Path.{◌≡◌}
-use mathlib.Core.Logic.{⊎_elim}
-use Prim.Native.Nat.{◌+◌, ◌-◌, ◌≤◌}
 use native.Mathlib.Omega.{arith}
-use lib.ListN.{length, drop}
-use Rattle.rules.specs.Table.{procedures, records}
-use Rattle.table.proofs.Whole.{Rest, rest-start, rest-next, counted, passed_over, procedures-end}
+use Rattle.table.proofs.Whole.{rest-start, rest-next, counted, passed_over, procedures-end}
 use Rattle.table.proofs.check.procedures_in.Goals as goal
 use Rattle.table.proofs.check.procedures_in.Goals.{then-table-off-eq1, else-table-off-eq1}
 

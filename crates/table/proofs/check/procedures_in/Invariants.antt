@@ -1,10 +1,8 @@
 use mathlib.Core.Path.{◌≡◌}
-use mathlib.Core.Logic.{⊎_elim}
 use Prim.Native.Nat.{◌+◌, ◌-◌, ◌≤◌}
-use native.Mathlib.Omega.{arith}
 use lib.ListN.{length, drop}
 use Rattle.rules.specs.Table.{procedures, records}
-use Rattle.table.proofs.Whole.{Rest, rest-start, rest-next, counted, passed_over, procedures-end}
+use Rattle.table.proofs.Whole.{Rest}
 use Rattle.table.proofs.check.procedures_in.Given as goal
 
 abbrev pub invariant-loop-off : goal.invariant-loop-off

@@ -3,7 +3,6 @@ use mathlib.Core.List.{[], ◌∷◌}
 use borrow.Author.Tests.{ne_eqb}
 use Rattle.table.specs.Check.{value_mosts}
 use Rattle.table.proofs.Columns.{elsewhere}
-use borrow.Author.Rules.{rules}
 use Rattle.table.proofs.check.value_most.Goals as goal
 
 pub returns : goal.returns

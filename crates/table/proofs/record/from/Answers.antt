@@ -1,5 +1,4 @@
 use Rattle.table.proofs.Parts.{rest_slice}
-use borrow.Author.Rules.{rules}
 use Rattle.table.proofs.record.from.Goals as goal
 
 pub returns : goal.returns
