@@ -1,11 +1,10 @@
-use mathlib.Core.Path.{◌≡◌, refl, sym, ◌∙◌}
+use mathlib.Core.Path.{refl, sym, ◌∙◌}
 use native.Mathlib.Omega.{arith}
 use Prim.Native.Nat.{◌%◌}
 use lib.ListN.{length}
 use borrow.Author.Tests.{eq-eqb, le-leb}
 use Rattle.rules.specs.Batch.{count, total, is_batch}
 use Rattle.rules.proofs.Batch.{no_batch_lem}
-use borrow.Author.Rules.{rules}
 use Rattle.batch.proofs.is_batch.Goals as goal
 
 pub returns-then-lengths-ne0 : goal.returns-then-lengths-ne0

@@ -1,7 +1,6 @@
 use Prim.Native.Nat.{◌+◌}
 use mathlib.Core.Path.{refl}
 use Rattle.table.proofs.Parts.{part_slice}
-use borrow.Author.Rules.{rules}
 use Rattle.batch.proofs.part.Goals as goal
 
 pub returns : goal.returns

@@ -4,7 +4,6 @@ use native.Mathlib.Omega.{arith}
 use lib.Seq.{sets}
 use Rattle.rules.specs.Fields.{bytes4}
 use Rattle.batch.proofs.Outcomes.{outcome-told}
-use borrow.Author.Rules.{rules}
 use Rattle.batch.proofs.put_outcome.Goals as goal
 
 pub returns : goal.returns

@@ -1,14 +1,13 @@
-use Prim.Native.Nat.{ℕ, suc, ◌+◌, ◌*◌, ◌-◌, ◌≤◌}
+use Prim.Native.Nat.{ℕ, ◌+◌, ◌*◌}
 use mathlib.Core.Path.{◌≡◌, refl, sym, ap, ap₂, ◌∙◌}
 use mathlib.Core.List.{List}
 use native.Mathlib.Omega.{arith}
 use native.Mathlib.Numerals.{add-one}
-use lib.ListN.{length, take}
+use lib.ListN.{length}
 use lib.Seq.{sets, length-sets, take_all}
 use Rattle.rules.specs.State.{joined}
 use Rattle.rules.specs.Batch.{count, total, recipe_at, outcome_bytes, outcomes_of}
 use Rattle.batch.proofs.Outcomes.{part-ends, recipe_is, outcome_more}
-use borrow.Author.Rules.{rules}
 use Rattle.batch.proofs.put_outcomes.Goals as goal
 
 pub loop-i-init : goal.loop-i-init

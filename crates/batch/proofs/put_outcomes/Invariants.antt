@@ -1,14 +1,8 @@
-use Prim.Native.Nat.{ℕ, suc, ◌+◌, ◌*◌, ◌-◌, ◌≤◌}
-use mathlib.Core.Path.{◌≡◌, refl, sym, ap, ap₂, ◌∙◌}
-use mathlib.Core.List.{List}
-use native.Mathlib.Omega.{arith}
-use native.Mathlib.Numerals.{add-one}
+use Prim.Native.Nat.{◌*◌, ◌-◌, ◌≤◌}
+use mathlib.Core.Path.{◌≡◌}
 use lib.ListN.{length, take}
-use lib.Seq.{sets, length-sets, take_all}
 use Rattle.rules.specs.State.{joined}
-use Rattle.rules.specs.Batch.{count, total, recipe_at, outcome_bytes, outcomes_of}
-use Rattle.batch.proofs.Outcomes.{part-ends, recipe_is, outcome_more}
-use borrow.Author.Rules.{rules}
+use Rattle.rules.specs.Batch.{count, total, recipe_at, outcome_bytes}
 use Rattle.batch.proofs.put_outcomes.Given as goal
 
 abbrev pub invariant-loop-i : goal.invariant-loop-i
