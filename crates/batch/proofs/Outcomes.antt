@@ -13,7 +13,7 @@ use Rattle.rules.specs.Fields.{bytes4}
 use Rattle.rules.specs.Table as T
 use Rattle.rules.specs.Table.{fine, fault, check}
 use Rattle.rules.specs.State.{joined}
-use Rattle.rules.specs.Batch.{count, length_at, total, recipe_at, outcome_bytes, IsBatch}
+use Rattle.rules.specs.Batch.{length_at, total, recipe_at, outcome_bytes, IsBatch}
 use Rattle.rules.proofs.Batch.{number_in, place_in, outcome-is, outcome-length, ends-within}
 use Rattle.rules.proofs.Lists.{joined_more}
 use Rattle.table.specs.declared.check.Verdict.{Verdict}
