@@ -16,7 +16,7 @@ use Rattle.rules.specs.Fields.{word, signed, bits, bytes2, bytes4}
 use Rattle.rules.specs.Values.{in_range}
 use Rattle.rules.specs.Recipe.{Recipe}
 use Rattle.rules.specs.Places.{is_place}
-use Rattle.rules.specs.State.{Task, Store, live, tab, joined, issued_in, live_in, active_in, number_in, task_in, tasks_in, variables_in, state_of, read_block, head_row, task_row, no_task, write_block}
+use Rattle.rules.specs.State.{Task, Store, tab, joined, issued_in, live_in, active_in, number_in, task_in, tasks_in, variables_in, state_of, read_block, head_row, task_row, no_task, write_block}
 use Rattle.rules.specs.Fairness.{Every}
 use Rattle.rules.specs.Demand.{Bytes}
 use Rattle.rules.proofs.Fit.{StoreFit, TaskFit, Fit}

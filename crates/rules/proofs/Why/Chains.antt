@@ -4,28 +4,28 @@ use Prim.Native.Nat.{ℕ, zero, suc, ◌+◌, ◌≤◌, ◌<◌}
 use mathlib.Core.Path.{◌≡◌, refl, sym, ap, ◌∙◌, subst, subst⁻¹}
 use mathlib.Core.Bool.{Bool, true, false}
 use mathlib.Core.Option.{Option, none, some}
-use mathlib.Core.List.{List, [], ◌∷◌, ◌++◌, append_assoc, head-eq_of_cons-eq, tail-eq_of_cons-eq}
+use mathlib.Core.List.{List, [], ◌∷◌, ◌++◌, append_assoc, head-eq_of_cons-eq}
 use mathlib.Core.Logic.{dite}
 use native.Mathlib.Decide.{ℕ_discrete}
 use native.Mathlib.Omega.{arith}
-use lib.Dec.{eqb, ltb}
-use lib.IntN.{ℤ, pos}
+use lib.Dec.{ltb}
+use lib.IntN.{pos}
 use lib.ListN.{length, length-append}
 use borrow.Author.Tests.{lt-ltb, ltb-true, ltb-false}
 use Rattle.rules.specs.Recipe.{Recipe, read}
 use Rattle.rules.specs.State.{Task, State}
-use Rattle.rules.specs.Scheduler.{is, Rules, waits_for, at_guard, is_live, count, readiness, can_go, any_go}
-use Rattle.rules.specs.Steps.{is_done, env_of, recipes}
+use Rattle.rules.specs.Scheduler.{is, Rules, count, can_go, any_go}
+use Rattle.rules.specs.Steps.{env_of, recipes}
 use Rattle.rules.specs.Fairness.{Every, Stuck}
 use Rattle.rules.specs.Demand.{times}
 use Rattle.rules.specs.Guards.{Held, not_done, untrue}
-use Rattle.rules.specs.Why.{End, named_earlier, never_issued, untrue_guard, Chain, chain, among, holder, follow, from_front, chain_with, chain_of, Queued, Awaits, Link, Links, AtNeverIssued, AtUntrueGuard, EndsSo, IsChain}
+use Rattle.rules.specs.Why.{End, named_earlier, never_issued, untrue_guard, Chain, chain, among, holder, follow, from_front, chain_with, chain_of, Queued, Awaits, Link, Links, AtUntrueGuard, EndsSo, IsChain}
 use Rattle.rules.proofs.Fit.{Fit}
 use Rattle.rules.proofs.Guards.{guards_hold}
-use Rattle.rules.proofs.Steps.{is_le, is-other}
+use Rattle.rules.proofs.Steps.{is-other}
 use Rattle.rules.proofs.Scheduling.Bound.{none_go, go_none, every-mid}
 use Rattle.rules.proofs.Why.Named.{times-append, is_self, every-named, no_more_named}
-use Rattle.rules.proofs.Why.Holders.{HasTask, queued-once, has_count, holder-is, held_by, not-issued, never_done, never_held, waits-is, guard-is, follow-named, follow-on, follow-never, follow-guard}
+use Rattle.rules.proofs.Why.Holders.{HasTask, has_count, holder-is, held_by, not-issued, never_done, never_held, waits-is, guard-is, follow-named, follow-on, follow-never, follow-guard}
 
 module _ (r : Recipe) (c : State) (f : Fit r c) where
   abbrev R : Rules

@@ -1,6 +1,6 @@
 -- Queued tasks by their numbers, what a task waits for, and how a chain goes on behind it.
 -- Assumes nothing.
-use Prim.Native.Nat.{ℕ, zero, suc, ◌+◌, ◌≤◌}
+use Prim.Native.Nat.{ℕ, suc, ◌+◌, ◌≤◌}
 use mathlib.Core.Path.{◌≡◌, refl, sym, ap, ◌∙◌, subst}
 use mathlib.Core.Bool.{Bool, true, false, not, ◌&&◌, cond, true≢false, false≢true}
 use mathlib.Core.Option.{Option, none, some}
@@ -8,17 +8,16 @@ use mathlib.Core.List.{List, [], ◌∷◌, ◌++◌, head-eq_of_cons-eq, tail-e
 use native.Mathlib.Omega.{arith}
 use lib.Dec.{eqb, leb, ltb}
 use lib.IntN.{ℤ, pos, negsuc}
-use borrow.Author.Tests.{eq-eqb, eqb-true, le-leb, leb-true}
+use borrow.Author.Tests.{eqb-true, le-leb, leb-true}
 use Rattle.rules.specs.Values.{is_true}
 use Rattle.rules.specs.Recipe.{Recipe, read, value}
 use Rattle.rules.specs.Places.{awaits, guards, at}
-use Rattle.rules.specs.State.{Store, Task, State, live_tasks, live}
+use Rattle.rules.specs.State.{Task, State, live_tasks}
 use Rattle.rules.specs.Scheduler.{is, Rules, waits_for, at_guard, is_live, count, readiness}
 use Rattle.rules.specs.Steps.{is_done, env_of, recipes}
 use Rattle.rules.specs.Fairness.{Every}
-use Rattle.rules.specs.Why.{End, named_earlier, never_issued, untrue_guard, Chain, chain, among, is_number, holder, follow, Queued, Awaits, NeverIssued, AtUntrueGuard}
+use Rattle.rules.specs.Why.{named_earlier, never_issued, untrue_guard, chain, among, is_number, holder, follow, Queued, Awaits, NeverIssued, AtUntrueGuard}
 use Rattle.rules.proofs.Fit.{TaskFit, Fit}
-use Rattle.rules.proofs.Lists.{every_append}
 use Rattle.rules.proofs.Scheduling.Bound.{count-append, every-mid}
 use Rattle.rules.proofs.Why.Named.{is_self}
 

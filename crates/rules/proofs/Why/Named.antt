@@ -1,6 +1,6 @@
 -- How often numbers are in a list, and that numbers which are all in another list, each as often there, are no more.
 -- Assumes nothing.
-use Prim.Native.Nat.{ℕ, zero, suc, ◌+◌, ◌-◌, ◌≤◌}
+use Prim.Native.Nat.{ℕ, suc, ◌+◌, ◌-◌, ◌≤◌}
 use mathlib.Core.Path.{◌≡◌, refl, sym, subst}
 use mathlib.Core.Bool.{Bool, true, false, cond}
 use mathlib.Core.List.{List, [], ◌∷◌, ◌++◌}
@@ -13,7 +13,7 @@ use borrow.Author.Tests.{eq-eqb, eqb-true}
 use Rattle.rules.specs.Scheduler.{is, Rules, count}
 use Rattle.rules.specs.Fairness.{Every}
 use Rattle.rules.specs.Demand.{times}
-use Rattle.rules.proofs.Steps.{is_le, is-other}
+use Rattle.rules.proofs.Steps.{is-other}
 
 pub times-append : (n : ℕ) (xs ys : List ℕ) → times n (xs ++ ys) ≡ times n xs + times n ys
 times-append n [] ys = omega arith
