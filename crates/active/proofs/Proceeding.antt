@@ -10,7 +10,7 @@ use lib.IntN.{ℤ}
 use lib.ListN.{length}
 use Rattle.rules.specs.Recipe.{Recipe, Within}
 use Rattle.rules.specs.State.{Task}
-use Rattle.rules.specs.Scheduler.{next_act, next, What, stops, makes, test, Run}
+use Rattle.rules.specs.Scheduler.{next_act, next, test, Run}
 use Rattle.rules.specs.Steps.{recipes}
 use Rattle.moves.specs.declared.Move.{Move}
 use Rattle.ready.specs.Ready.{Placed}

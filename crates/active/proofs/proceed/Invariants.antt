@@ -1,16 +1,7 @@
 use Prim.Native.Nat.{◌-◌}
-use mathlib.Core.Path.{◌≡◌, refl, sym, ◌∙◌}
-use mathlib.Core.Bool.{true, false}
-use native.Mathlib.Omega.{arith}
-use borrow.Author.Tests.{not-true, not-false}
-use Rattle.rules.specs.Recipe.{Within}
 use Rattle.rules.specs.Table.{recipe_of}
-use Rattle.rules.proofs.Standing.{spells}
 use Rattle.state.specs.View.{task_of}
-use Rattle.moves.specs.Moves.{store_with}
-use Rattle.count.specs.Along.{is_more}
-use Rattle.count.proofs.Stops.{not_more}
-use Rattle.active.proofs.Proceeding.{Running, running-start, DecidesAll, in_budget, in_log, placed, further, counted, ends_all, has_room, leaves_all, again}
+use Rattle.active.proofs.Proceeding.{Running}
 use Rattle.active.proofs.proceed.Given as goal
 
 abbrev pub invariant-loop-bounds : goal.invariant-loop-bounds

@@ -1,36 +1,11 @@
 use native.Mathlib.Omega.{arith}
-use borrow.Author.Rules.{rules}
 use Rattle.values.proofs.Exact.{result32}
-use Rattle.events.proofs.Telling.{goes-tells, gives_tells, waits-tells, ends-tells, lacks-tells, valve-tells, set_tells, tasks-tells, spent-tells, spawned-tells}
+use Rattle.events.proofs.Telling.{goes-tells, gives_tells, ends-tells, lacks-tells, valve-tells, set_tells, tasks-tells, spent-tells, spawned-tells}
 use Rattle.events.proofs.outcome_of.Goals as goal
-
-pub enum_told-1 : goal.enum_told-1
-enum_told-1 c = search rules
-
-pub enum_known-m : goal.enum_known-m
-enum_known-m c = search rules
-
-pub enum_told-in-Spawns : goal.enum_told-in-Spawns
-enum_told-in-Spawns c = search rules
 
 pub returns-then-issued-eq65535 : goal.returns-then-issued-eq65535
 returns-then-issued-eq65535 c =
     rw c.in-Spawns.is (spent-tells _ _ _ _ _ _ _ c.if-queued-ge31.false (omega arith))
-
-pub overflow_add-result : goal.overflow_add-result
-overflow_add-result c = search rules
-
-pub enum_told-in-Gives : goal.enum_told-in-Gives
-enum_told-in-Gives c = search rules
-
-pub enum_known-m-in-Waits-1 : goal.enum_known-m-in-Waits-1
-enum_known-m-in-Waits-1 c = search rules
-
-pub enum_told-in-Ends : goal.enum_told-in-Ends
-enum_told-in-Ends c = search rules
-
-pub enum_told-in-Lacks : goal.enum_told-in-Lacks
-enum_told-in-Lacks c = search rules
 
 pub returns-in-Goes : goal.returns-in-Goes
 returns-in-Goes c = rw c.in-Goes.is (goes-tells _ _ _ _)

@@ -3,28 +3,15 @@ use mathlib.Core.List.{List}
 use mathlib.Core.Path.{◌≡◌, ap, ◌∙◌}
 use native.Mathlib.Omega.{arith}
 use lib.Seq.{sets}
-use lib.ListN.{length, length-set}
-use borrow.Author.Rules.{rules}
+use lib.ListN.{length-set}
 use Rattle.rules.specs.Fields.{bytes4}
 use Rattle.events.proofs.put_row.Goals as goal
-
-pub bounds-log-at : goal.bounds-log-at
-bounds-log-at c = search rules
-
-pub overflow_add-log : goal.overflow_add-log
-overflow_add-log c = search rules
 
 pub bounds-log-at-2 : goal.bounds-log-at-2
 bounds-log-at-2 c = simp length-set (omega arith)
 
-pub overflow_add-at : goal.overflow_add-at
-overflow_add-at c = search rules
-
 pub put_half-requires : goal.put_half-requires
 put_half-requires c = simp length-set (omega arith)
-
-pub overflow_add-at-2 : goal.overflow_add-at-2
-overflow_add-at-2 c = search rules
 
 pub returns : goal.returns
 returns c =

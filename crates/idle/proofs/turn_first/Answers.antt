@@ -1,12 +1,10 @@
 use Rattle.values.proofs.Exact.{result32}
-use Prim.Native.Nat.{ℕ, ◌+◌, ◌-◌, ◌*◌, ◌≤◌, ◌<◌}
-use mathlib.Core.Path.{◌≡◌, refl, ◌∙◌, subst}
+use Prim.Native.Nat.{ℕ, ◌<◌}
+use mathlib.Core.Path.{◌≡◌, ◌∙◌, subst}
 use mathlib.Core.Bool.{false}
 use mathlib.Core.List.{List}
 use native.Mathlib.Omega.{arith}
 use borrow.Author.Rules.{rules}
-use lib.ListN.{length}
-use Rattle.rules.specs.Recipe.{Within}
 use Rattle.rules.specs.Table.{recipe_of}
 use Rattle.rules.proofs.Standing.{spells}
 use lib.IntN.{ℤ}
@@ -18,7 +16,7 @@ use Rattle.ready.specs.Ready.{idle}
 use Rattle.count.specs.declared.Count.{Count}
 use Rattle.idle.specs.Idle.{Turning}
 use Rattle.idle.proofs.Turning.{ahead-waits}
-use Rattle.idle.proofs.Trying.{queue_at, Turned, turned-start, turned_more}
+use Rattle.idle.proofs.Trying.{queue_at, turned-start, turned_more}
 use Rattle.idle.proofs.turn_first.Goals as goal
 
 -- each of the first k tasks waits
@@ -41,9 +39,6 @@ waiting_at-x-requires c =
     let l = c.loop-i-test.true in
     let a = c.args in
     (c.requires.waiting, omega arith, waits a.table.now a.queue.now a.variables.now a.front a.queued a.issued a.k a.budget a.log.now a.before c.requires c.loop-i.i l (omega arith))
-
-pub carried-requires : goal.carried-requires
-carried-requires c = tt
 
 pub overflow_add-i : goal.overflow_add-i
 overflow_add-i c = let i = c.loop-i-test.true in omega arith

@@ -1,9 +1,6 @@
 use Prim.Native.Nat.{ℕ, ◌≤◌, ◌<◌, ◌-◌}
-use mathlib.Core.Path.{◌≡◌, sym}
-use native.Mathlib.Omega.{arith}
-use borrow.Author.Count.{below_more}
-use Rattle.state.specs.View.{entry, queue_of}
-use Rattle.ready.proofs.Queue.{none_live, one-live}
+use mathlib.Core.Path.{◌≡◌}
+use Rattle.state.specs.View.{entry}
 use Rattle.ready.proofs.is_live.Given as goal
 
 abbrev pub invariant-loop-i : goal.invariant-loop-i

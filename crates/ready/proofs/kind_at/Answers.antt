@@ -1,13 +1,6 @@
 use mathlib.Core.Path.{sym}
 use lib.ListN.{get_or-eq_default}
-use borrow.Author.Rules.{rules}
 use Rattle.ready.proofs.kind_at.Goals as goal
 
 pub returns-then-table-off : goal.returns-then-table-off
 returns-then-table-off c = sym (get_or-eq_default c.args.table.now 0 c.if-table-off.true)
-
-pub bounds-table-off : goal.bounds-table-off
-bounds-table-off c = search rules
-
-pub returns : goal.returns
-returns c = search rules

@@ -1,23 +1,10 @@
 use mathlib.Core.Path.{subst⁻¹, ap, ◌∙◌}
 use mir.Facts.{to_z-of_z}
-use borrow.Author.Rules.{rules}
 use Rattle.rules.specs.Table.{recipe_of}
 use Rattle.state.specs.View.{entry, queue_of}
 use Rattle.ready.specs.Ready.{idle, ready_in, NotDone, Placed}
 use Rattle.ready.proofs.Queue.{every_at}
 use Rattle.ready.proofs.queued_at.Goals as goal
-
-pub overflow_add-at : goal.overflow_add-at
-overflow_add-at c = search rules
-
-pub offset_bounds-queue-at : goal.offset_bounds-queue-at
-offset_bounds-queue-at c = search rules
-
-pub bounds-queue-at : goal.bounds-queue-at
-bounds-queue-at c = search rules
-
-pub unpack-task-requires : goal.unpack-task-requires
-unpack-task-requires c = search rules
 
 pub wait_of-wait-requires : goal.wait_of-wait-requires
 unfolding queue_of

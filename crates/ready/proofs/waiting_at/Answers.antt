@@ -1,11 +1,10 @@
 use mathlib.Core.Path.{◌≡◌, refl, ap, ◌∙◌, subst⁻¹}
 use mathlib.Core.Bool.{false}
 use Prim.Native.Nat.{ℕ}
-use borrow.Author.Rules.{rules}
 use Rattle.rules.specs.Table.{recipe_of}
 use Rattle.rules.specs.State.{Task}
 use Rattle.rules.specs.Scheduler.{is_ready}
-use Rattle.state.specs.View.{task_of, entry, queue_of}
+use Rattle.state.specs.View.{entry, queue_of}
 use Rattle.ready.specs.Ready.{idle, ready_in, Placed}
 use Rattle.ready.proofs.Queue.{every_at}
 use Rattle.ready.proofs.waiting_at.Goals as goal
