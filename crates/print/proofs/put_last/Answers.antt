@@ -16,13 +16,13 @@ room at number steps l h = omega (arith, h, ending-line-length number steps l)
 pub put_number-s-requires : goal.put_number-s-requires
 put_number-s-requires c =
     let a = c.args in
-    let all = room a.at a.number a.steps (omega (arith, c.ranges.steps)) c.requires in
+    let all = room a.at a.number a.steps (omega arith) c.requires in
     fits c.put_ending-n.ensures (spaced a.steps) (front a.at (ending_word a.number ++ spaced a.steps) (bytes "\n") all)
 
 pub put_word-requires : goal.put_word-requires
 put_word-requires c =
     let a = c.args in
-    let all = room a.at a.number a.steps (omega (arith, c.ranges.steps)) c.requires in
+    let all = room a.at a.number a.steps (omega arith) c.requires in
     fits (then c.put_ending-n.ensures c.put_number-s.ensures) (bytes "\n") all
 
 pub returns : goal.returns

@@ -16,21 +16,21 @@ room at number place l m h = omega (arith, h, refused-line-length number place l
 pub put_number-n-requires : goal.put_number-n-requires
 put_number-n-requires c =
     let a = c.args in
-    let all = room a.at a.number a.place (omega (arith, c.ranges.number)) (omega (arith, c.ranges.place)) c.requires in
+    let all = room a.at a.number a.place (omega arith) (omega arith) c.requires in
     let two = front a.at (bytes "refused" ++ spaced a.number ++ spaced a.place) (bytes "\n") all in
     fits c.put_word-w.ensures (spaced a.number) (front a.at (bytes "refused" ++ spaced a.number) (spaced a.place) two)
 
 pub put_number-i-requires : goal.put_number-i-requires
 put_number-i-requires c =
     let a = c.args in
-    let all = room a.at a.number a.place (omega (arith, c.ranges.number)) (omega (arith, c.ranges.place)) c.requires in
+    let all = room a.at a.number a.place (omega arith) (omega arith) c.requires in
     fits (then c.put_word-w.ensures c.put_number-n.ensures) (spaced a.place)
     (front a.at (bytes "refused" ++ spaced a.number ++ spaced a.place) (bytes "\n") all)
 
 pub put_word-requires : goal.put_word-requires
 put_word-requires c =
     let a = c.args in
-    let all = room a.at a.number a.place (omega (arith, c.ranges.number)) (omega (arith, c.ranges.place)) c.requires in
+    let all = room a.at a.number a.place (omega arith) (omega arith) c.requires in
     fits (then (then c.put_word-w.ensures c.put_number-n.ensures) c.put_number-i.ensures) (bytes "\n") all
 
 pub returns : goal.returns
