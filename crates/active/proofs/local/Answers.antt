@@ -15,19 +15,19 @@ pub set-requires-in-Spawns : goal.set-requires-in-Spawns
 set-requires-in-Spawns c = subst Named c.in-Spawns.is c.requires
 
 pub returns-in-Goes : goal.returns-in-Goes
-returns-in-Goes c =     let a = c.args in
+returns-in-Goes c = let a = c.args in
     rw (c.in-Goes.is, c.moved.ensures) (λ r q x d h. alone r q x d (store_with a.issued a.variables.now) (on (go_to (task_of a.t) _)) _ h)
 
 pub returns-in-Gives : goal.returns-in-Gives
-returns-in-Gives c =     let a = c.args in
+returns-in-Gives c = let a = c.args in
     rw (c.in-Gives.is, c.moved-in-Gives.ensures) (λ r q x d h. alone r q x d (store_with a.issued a.variables.now) (back (go_to (task_of a.t) _)) _ h)
 
 pub returns-in-Waits : goal.returns-in-Waits
-returns-in-Waits c =     let a = c.args in
+returns-in-Waits c = let a = c.args in
     rw c.in-Waits.is (λ r q x d h. alone r q x d (store_with a.issued a.variables.now) (back (task_of a.t)) _ h)
 
 pub returns-in-Ends : goal.returns-in-Ends
-returns-in-Ends c =     let a = c.args in
+returns-in-Ends c = let a = c.args in
     rw c.in-Ends.is (λ r q x d h. alone r q x d (store_with a.issued a.variables.now) over _ h)
 
 pub returns-in-Lacks : goal.returns-in-Lacks

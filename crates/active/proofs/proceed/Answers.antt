@@ -30,8 +30,8 @@ returns-then-not-is_more c =
     let l = c.loop-bounds in
     let w = (spells a.table.now (λ i. omega (arith, c.type_inv.table i)) c.requires.accepted).within in
     let d : DecidesAll (recipe_of a.table.now) a.bounds.budget a.bounds.queued a.bounds.issued c.move_of-m.result (task_of l.t) l.variables
-        c.decide-d.result.stop l.n c.decide-d.result.count l.log c.decide-d.new.log =
-        record { all = λ q h. c.decide-d.ensures (recipe_of a.table.now) (store_with a.bounds.issued l.variables) q (task_of l.t) refl h refl } in
+    c.decide-d.result.stop l.n c.decide-d.result.count l.log c.decide-d.new.log =
+    record { all = λ q h. c.decide-d.ensures (recipe_of a.table.now) (store_with a.bounds.issued l.variables) q (task_of l.t) refl h refl } in
     let over = sym c.is_more.ensures ∙ c.if-not-is_more.true in
     record {
       last_value = λ e. absurd (not_more c.decide-d.result.stop over e);
@@ -48,8 +48,8 @@ returns-then-leaves c =
     let l = c.loop-bounds in
     let w = (spells a.table.now (λ i. omega (arith, c.type_inv.table i)) c.requires.accepted).within in
     let d : DecidesAll (recipe_of a.table.now) a.bounds.budget a.bounds.queued a.bounds.issued c.move_of-m.result (task_of l.t) l.variables
-        c.decide-d.result.stop l.n c.decide-d.result.count l.log c.decide-d.new.log =
-        record { all = λ q h. c.decide-d.ensures (recipe_of a.table.now) (store_with a.bounds.issued l.variables) q (task_of l.t) refl h refl } in
+    c.decide-d.result.stop l.n c.decide-d.result.count l.log c.decide-d.new.log =
+    record { all = λ q h. c.decide-d.ensures (recipe_of a.table.now) (store_with a.bounds.issued l.variables) q (task_of l.t) refl h refl } in
     let goes : is_more c.decide-d.result.stop ≡ true = sym c.is_more.ensures ∙ c.if-not-is_more.false in
     let moves = c.move_of-m.ensures in
     record {
@@ -68,8 +68,8 @@ loop-bounds-smaller c =
     let l = c.loop-bounds in
     let w = (spells a.table.now (λ i. omega (arith, c.type_inv.table i)) c.requires.accepted).within in
     let d : DecidesAll (recipe_of a.table.now) a.bounds.budget a.bounds.queued a.bounds.issued c.move_of-m.result (task_of l.t) l.variables
-        c.decide-d.result.stop l.n c.decide-d.result.count l.log c.decide-d.new.log =
-        record { all = λ q h. c.decide-d.ensures (recipe_of a.table.now) (store_with a.bounds.issued l.variables) q (task_of l.t) refl h refl } in
+    c.decide-d.result.stop l.n c.decide-d.result.count l.log c.decide-d.new.log =
+    record { all = λ q h. c.decide-d.ensures (recipe_of a.table.now) (store_with a.bounds.issued l.variables) q (task_of l.t) refl h refl } in
     let goes : is_more c.decide-d.result.stop ≡ true = sym c.is_more.ensures ∙ c.if-not-is_more.false in
     let n = counted l.invariant c.move_of-m.ensures d p.queue p.many goes in
     let next = again l.invariant c.move_of-m.ensures d w goes _ _ c.local-t.ensures p.queue p.many (sym c.leaves.ensures ∙ c.if-leaves.false) (search rules) in
@@ -83,7 +83,7 @@ loop-bounds-preserved c =
     let l = c.loop-bounds in
     let w = (spells a.table.now (λ i. omega (arith, c.type_inv.table i)) c.requires.accepted).within in
     let d : DecidesAll (recipe_of a.table.now) a.bounds.budget a.bounds.queued a.bounds.issued c.move_of-m.result (task_of l.t) l.variables
-        c.decide-d.result.stop l.n c.decide-d.result.count l.log c.decide-d.new.log =
-        record { all = λ q h. c.decide-d.ensures (recipe_of a.table.now) (store_with a.bounds.issued l.variables) q (task_of l.t) refl h refl } in
+    c.decide-d.result.stop l.n c.decide-d.result.count l.log c.decide-d.new.log =
+    record { all = λ q h. c.decide-d.ensures (recipe_of a.table.now) (store_with a.bounds.issued l.variables) q (task_of l.t) refl h refl } in
     let goes : is_more c.decide-d.result.stop ≡ true = sym c.is_more.ensures ∙ c.if-not-is_more.false in
     again l.invariant c.move_of-m.ensures d w goes _ _ c.local-t.ensures p.queue p.many (sym c.leaves.ensures ∙ c.if-leaves.false) (search rules)

@@ -8,6 +8,5 @@ returns-then-log-n-lt8 c = let a = c.args in λ x b s. no_room x a.n a.log.now b
 
 pub returns : goal.returns
 returns c =
-
     let a = c.args in
     λ x b s. room x a.n a.log.now b (event_of a.e) s _ _ c.if-log-n-lt8.false refl refl c.put_event.ensures

@@ -15,7 +15,6 @@ put_half-requires c = simp length-set (omega arith)
 
 pub returns : goal.returns
 returns c =
-
     let a = c.args.at in
     let e1 : a + 1 ≡ suc a = omega arith in
     let e2 : a + 2 ≡ suc (suc a) = omega arith in

@@ -61,7 +61,7 @@ turn_first-n-requires c =
     let a = c.args in
     let state = idle a.bounds.issued a.variables.now a.queue.now a.front a.bounds.queued in
     let k : Chosen (ahead_in a.table.now state) (a.bounds.budget - a.before.steps) ((length a.log.now - a.before.written) / 8) c.least-k.result =
-        chosen _ _ _ _ _ c.least.ensures (rw c.first_ready-ahead.ensures at c.least-k.ensures) in
+    chosen _ _ _ _ _ c.least.ensures (rw c.first_ready-ahead.ensures at c.least-k.ensures) in
     let b = in_budget c.requires in
     let l = in_log c.requires in
     record {
@@ -77,7 +77,7 @@ take-requires c =
     let a = c.args in
     let state = idle a.bounds.issued a.variables.now a.queue.now a.front a.bounds.queued in
     let k : Chosen (ahead_in a.table.now state) (a.bounds.budget - a.before.steps) ((length a.log.now - a.before.written) / 8) c.least-k.result =
-        chosen _ _ _ _ _ c.least.ensures (rw c.first_ready-ahead.ensures at c.least-k.ensures) in
+    chosen _ _ _ _ _ c.least.ensures (rw c.first_ready-ahead.ensures at c.least-k.ensures) in
     let s = some_goes a.table.now a.queue.now a.variables.now a.front a.bounds.queued a.bounds.issued _ c.first_ready-ahead.ensures c.if-ahead-queued.false in
     let n = c.turn_first-n.ensures.steps_value in
     let b = in_budget c.requires in
@@ -94,13 +94,13 @@ returns c =
     let w = (spells a.table.now (λ i. omega (arith, c.type_inv.table i)) c.requires.accepted).within in
     let state = idle a.bounds.issued a.variables.now a.queue.now a.front a.bounds.queued in
     let k : Chosen (ahead_in a.table.now state) (a.bounds.budget - a.before.steps) ((length a.log.now - a.before.written) / 8) c.least-k.result =
-        chosen _ _ _ _ _ c.least.ensures (rw c.first_ready-ahead.ensures at c.least-k.ensures) in
+    chosen _ _ _ _ _ c.least.ensures (rw c.first_ready-ahead.ensures at c.least-k.ensures) in
     let s = some_goes a.table.now a.queue.now a.variables.now a.front a.bounds.queued a.bounds.issued _ c.first_ready-ahead.ensures c.if-ahead-queued.false in
     let h = k.in_ahead in
     let n = f.ensures.steps_value in
     let e = t.ensures.turns_value in
     let d : Takes a.bounds.budget (taken (entry a.queue.now a.front c.least-k.result).number) t.result.stop f.result t.result.count f.new.log t.new.log =
-        record { all = t.ensures.decides } in
+    record { all = t.ensures.decides } in
     record {
       turns_le_queued = (omega arith, λ o. let m = takes_one (recipe_of a.table.now) state d o in (omega arith, omega (arith, n.0)));
       tries = λ u given x.

@@ -37,17 +37,17 @@ loop-i-preserved c =
     let task = entry a.queue.now a.front c.loop-i.i in
     let go = can_go (recipes (recipe_of a.table.now)) state in
     elim c.if-standing-last.branch [
-      then-standing-last+in-Waits w ↦
-        let waits : go task ≡ false = ap is_ready (sym w.queued_at-x.ensures.wait_is) ∙ ap (λ (w : Wait). is_ready (readiness_of w)) w.in-Waits.is in
-        let not_done = waits_not_done a.table.now state task w.in-Waits.v (sym w.queued_at-x.ensures.wait_is ∙ ap readiness_of w.in-Waits.is) in
-        (omega arith, below_more _ _ c.loop-i.invariant.1 waits, subst⁻¹ (NotDone a.table.now state) (w.known-is ∙ result32 {z = w.in-Waits.v} (omega arith)) not_done, λ x l e. same_go _ state x _ (e ∙ w.last-is ∙ c.standing-standing.ensures.0) ∙ waits)
-    | then-standing-last+in-AtGuard w ↦
-        let waits : go task ≡ false = ap is_ready (sym w.queued_at-x.ensures.wait_is) ∙ ap (λ (w : Wait). is_ready (readiness_of w)) w.in-AtGuard.is in
-        (omega arith, below_more _ _ c.loop-i.invariant.1 waits, subst⁻¹ (NotDone a.table.now state) w.known-is c.loop-i.invariant.2, λ x l e. same_go _ state x _ (e ∙ w.last-is ∙ c.standing-standing.ensures.0) ∙ waits)
-    | else-standing-last w ↦
-        let same = w.if-standing-last.false in
-        let waits : go task ≡ false = c.loop-i.invariant.3 _ (omega (arith, c.standing-standing.ensures.0, c.standing-standing.ensures.1)) (sym c.standing-standing.ensures.0 ∙ same) in
-        (omega arith, below_more _ _ c.loop-i.invariant.1 waits, subst⁻¹ (NotDone a.table.now state) w.known-is c.loop-i.invariant.2, λ x l e. c.loop-i.invariant.3 x l (e ∙ w.last-is))
+      | then-standing-last+in-Waits w ↦
+          let waits : go task ≡ false = ap is_ready (sym w.queued_at-x.ensures.wait_is) ∙ ap (λ (w : Wait). is_ready (readiness_of w)) w.in-Waits.is in
+          let not_done = waits_not_done a.table.now state task w.in-Waits.v (sym w.queued_at-x.ensures.wait_is ∙ ap readiness_of w.in-Waits.is) in
+          (omega arith, below_more _ _ c.loop-i.invariant.1 waits, subst⁻¹ (NotDone a.table.now state) (w.known-is ∙ result32 {z = w.in-Waits.v} (omega arith)) not_done, λ x l e. same_go _ state x _ (e ∙ w.last-is ∙ c.standing-standing.ensures.0) ∙ waits)
+      | then-standing-last+in-AtGuard w ↦
+          let waits : go task ≡ false = ap is_ready (sym w.queued_at-x.ensures.wait_is) ∙ ap (λ (w : Wait). is_ready (readiness_of w)) w.in-AtGuard.is in
+          (omega arith, below_more _ _ c.loop-i.invariant.1 waits, subst⁻¹ (NotDone a.table.now state) w.known-is c.loop-i.invariant.2, λ x l e. same_go _ state x _ (e ∙ w.last-is ∙ c.standing-standing.ensures.0) ∙ waits)
+      | else-standing-last w ↦
+          let same = w.if-standing-last.false in
+          let waits : go task ≡ false = c.loop-i.invariant.3 _ (omega (arith, c.standing-standing.ensures.0, c.standing-standing.ensures.1)) (sym c.standing-standing.ensures.0 ∙ same) in
+          (omega arith, below_more _ _ c.loop-i.invariant.1 waits, subst⁻¹ (NotDone a.table.now state) w.known-is c.loop-i.invariant.2, λ x l e. c.loop-i.invariant.3 x l (e ∙ w.last-is))
     ]
 
 pub returns : goal.returns

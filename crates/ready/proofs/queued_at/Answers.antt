@@ -16,7 +16,7 @@ wait_of-wait-requires c =
     (w.accepted, subst⁻¹ (Placed r) c.unpack-task.ensures placed, w.front_fits, w.few, subst⁻¹ (NotDone a.table.now (idle a.issued a.variables.now a.queue.now a.front a.queued)) (to_z-of_z c.ranges.known) c.requires.2)
 
 pub returns : goal.returns
-returns c =     let a = c.args in
+returns c = let a = c.args in
     let state = idle a.issued a.variables.now a.queue.now a.front a.queued in
     let e = c.unpack-task.ensures in
     record { task_is = e; wait_is = c.wait_of-wait.ensures ∙ ap (ready_in a.table.now state) e }

@@ -35,7 +35,7 @@ returns-then-v-known c =
     let i = await-read p (sym c.kind_at-kind.ensures ∙ c.if-kind-eq8.true) in
     let n = get_or a.table.now (8 * a.t.place + 1) 0 in
     let value : c.variable-v.result ≡ read (record { variables = a.variables.now; parameter = a.t.parameter }) n =
-        c.variable-v.ensures ∙ ap (λ (p : ℤ). read (record { variables = a.variables.now; parameter = p }) n) (search rules) in
+    c.variable-v.ensures ∙ ap (λ (p : ℤ). read (record { variables = a.variables.now; parameter = p }) n) (search rules) in
     let same = sym value ∙ sym (result32 c.variable-v.type_inv) ∙ ap (to_z w32) c.if-v-known.true ∙ to_z-of_z c.ranges.known in
     let live = is_live (recipes (recipe_of a.table.now)) (queue_of a.queue.now a.front a.queued) in
     ap waits_for (result32 c.variable-v.type_inv ∙ value)
@@ -48,7 +48,7 @@ returns-then-is_done c =
     let i = await-read p (sym c.kind_at-kind.ensures ∙ c.if-kind-eq8.true) in
     let n = get_or a.table.now (8 * a.t.place + 1) 0 in
     let value : c.variable-v.result ≡ read (record { variables = a.variables.now; parameter = a.t.parameter }) n =
-        c.variable-v.ensures ∙ ap (λ (p : ℤ). read (record { variables = a.variables.now; parameter = p }) n) (search rules) in
+    c.variable-v.ensures ∙ ap (λ (p : ℤ). read (record { variables = a.variables.now; parameter = p }) n) (search rules) in
     let live = is_live (recipes (recipe_of a.table.now)) (queue_of a.queue.now a.front a.queued) in
     let done = c.is_done.ensures (recipe_of a.table.now) ∙ ap (is_done a.issued live) (result32 c.variable-v.type_inv ∙ value) in
     sym (wait_over _ _ _ (task_of a.t) _ _ i.is (sym done ∙ c.if-is_done.true))
@@ -60,7 +60,7 @@ returns-then-kind-eq8 c =
     let i = await-read p (sym c.kind_at-kind.ensures ∙ c.if-kind-eq8.true) in
     let n = get_or a.table.now (8 * a.t.place + 1) 0 in
     let value : c.variable-v.result ≡ read (record { variables = a.variables.now; parameter = a.t.parameter }) n =
-        c.variable-v.ensures ∙ ap (λ (p : ℤ). read (record { variables = a.variables.now; parameter = p }) n) (search rules) in
+    c.variable-v.ensures ∙ ap (λ (p : ℤ). read (record { variables = a.variables.now; parameter = p }) n) (search rules) in
     let live = is_live (recipes (recipe_of a.table.now)) (queue_of a.queue.now a.front a.queued) in
     let done = c.is_done.ensures (recipe_of a.table.now) ∙ ap (is_done a.issued live) (result32 c.variable-v.type_inv ∙ value) in
     ap waits_for (result32 c.variable-v.type_inv ∙ value)
