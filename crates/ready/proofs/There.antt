@@ -172,6 +172,7 @@ pub record Place (t : List ℕ) (i : ℕ) : Type 0 where
   pub accepted : check t ≡ fine
   pub placed : is_place (recipe_of t) i ≡ true
 
+-- from the range of each byte, as the code knows it
 pub place_of : (t : List ℕ) (i : ℕ) → ((k : ℕ) → Fits w8 (get_or t k 0)) → check t ≡ fine → is_place (recipe_of t) i ≡ true → Place t i
 place_of t i b a p = record { bytes = λ k. (b k).fits; accepted = a; placed = p }
 
