@@ -154,8 +154,8 @@ module _ {table : List ℕ} {s₀ : State} {budget : ℕ} {log₀ : List ℕ} wh
     pub came : (b : Bounds) (p : Proceeded) (v : List ℤ) (log' : List ℕ) → b ≡ bounds_in s budget → s.active ≡ true
         → (ending_of p.stop ≡ none → (leaves p.last ≡ true) × Room p.last b.queued b.issued × (n.steps < p.count.steps))
         → ((u : Run (recipes (recipe_of table))) (given : List ℕ) (q : List (R.Task ℕ)) → length q ≡ b.queued
-            → Along (recipe_of table) u b.budget given n log (busy b.issued s.variables (task_of s.current) q)
-            → Left (recipe_of table) u b.budget given p.count log' p.last (busy b.issued v (task_of p.task) q) (ending_of p.stop))
+        → Along (recipe_of table) u b.budget given n log (busy b.issued s.variables (task_of s.current) q)
+        → Left (recipe_of table) u b.budget given p.count log' p.last (busy b.issued v (task_of p.task) q) (ending_of p.stop))
         → Came table s₀ budget log₀ n (left_with s p.task v) p.stop p.count log' p.last
     came b p v log' e on so left = record {
       left = (rw e at left) _ _ (queue_of s.queue s.front s.queued) (queue-length s.queue s.front s.queued) (along-busy on);
@@ -168,7 +168,7 @@ module _ {table : List ℕ} {s₀ : State} {budget : ℕ} {log₀ : List ℕ} wh
     pub tried : (b : Bounds) (w : Tries-all.Tried) (log' : List ℕ) → b ≡ bounds_in s budget → s.active ≡ false
         → (w.turns ≤ b.queued) × (ending_of w.stop ≡ none → (w.turns < b.queued) × (n.steps < w.count.steps))
         → ((u : Run (recipes (recipe_of table))) (given : List ℕ) → Along (recipe_of table) u b.budget given n log (idle b.issued s.variables s.queue s.front b.queued)
-            → Tries (recipe_of table) u b.budget given w.count log' (turn w.turns (idle b.issued s.variables s.queue s.front b.queued)) (ending_of w.stop))
+        → Tries (recipe_of table) u b.budget given w.count log' (turn w.turns (idle b.issued s.variables s.queue s.front b.queued)) (ending_of w.stop))
         → Tried table s₀ budget log₀ n s w.stop w.count log' w.turns × (w.turns ≤ s.queued)
     tried b w log' e off some tries =
         (record { tries = (rw e at tries) _ _ (along-idle off); further = (rw e at some).1; off = off }, (rw e at some).0)

@@ -33,9 +33,7 @@ pub loop-i-smaller : goal.loop-i-smaller
 loop-i-smaller c = omega arith
 
 pub loop-i-preserved : goal.loop-i-preserved
-loop-i-preserved c =     let p = c.put_half in
-
-
+loop-i-preserved c = let p = c.put_half in
     let w = numbers_more c.args.out.now c.args.numbers.now c.loop-i.out c.loop-i.i (omega arith) (omega arith) c.loop-i.invariant.2 in
     let k = length-sets c.loop-i.out (2 * c.loop-i.i) (bytes2 (get_or c.args.numbers.now c.loop-i.i 0)) in
     (omega arith, ap length p.ensures ∙ k ∙ c.loop-i.invariant.1, p.ensures ∙ w)
@@ -45,6 +43,5 @@ shape_of-out c = c.loop-i.invariant.1 ∙ sym c.requires.0
 
 pub returns : goal.returns
 returns c =
-
     let e : c.loop-i.i ≡ c.args.n = omega arith in
     c.loop-i.invariant.2 ∙ ap (λ (k : ℕ). halves (take k c.args.numbers.now) ++ drop (2 * k) c.args.out.now) e

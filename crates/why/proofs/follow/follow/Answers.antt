@@ -38,7 +38,7 @@ module _ {table queue : List ℕ} {front queued issued : ℕ} {variables : List 
     (p : Following table (idle issued variables queue front queued) queue front queued)
     (at n : ℕ) (numbers : List ℕ)
     (come : (at < queued) × (n ≤ queued) × (length numbers ≡ 33)
-        × (follow (recipes (recipe_of table)) (suc queued - n) (idle issued variables queue front queued) (take n numbers) (entry queue front at) ≡ start table queue front queued issued variables))
+    × (follow (recipes (recipe_of table)) (suc queued - n) (idle issued variables queue front queued) (take n numbers) (entry queue front at) ≡ start table queue front queued issued variables))
     {x : Queued} (d : Describes table issued variables queue front queued at x) where
   abbrev r : Recipe
   r = recipe_of table

@@ -30,7 +30,7 @@ abbrev pub start : (table queue : List ℕ) (front queued issued : ℕ) (variabl
 start table queue front queued issued variables = follow (recipes (recipe_of table)) (suc queued) (idle issued variables queue front queued) [] (entry queue front 0)
 
 abbrev pub invariant-loop-x : goal.invariant-loop-x
-invariant-loop-x l =     (l.at < l.queued) × (l.n ≤ l.queued) × (length l.numbers ≡ 33)
+invariant-loop-x l = (l.at < l.queued) × (l.n ≤ l.queued) × (length l.numbers ≡ 33)
     × (follow (recipes (recipe_of l.table)) (suc l.queued - l.n) (idle l.issued l.variables l.queue l.front l.queued) (take l.n l.numbers) (entry l.queue l.front l.at) ≡ start l.table l.queue l.front l.queued l.issued l.variables)
 
 abbrev pub decreases-loop-x : goal.decreases-loop-x

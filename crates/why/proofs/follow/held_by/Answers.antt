@@ -27,6 +27,6 @@ pub returns-in-Ready : goal.returns-in-Ready
 returns-in-Ready c = absurd (true≢false (ap (λ (w : Wait). is_ready (readiness_of w)) (sym c.in-Ready.is) ∙ c.requires.2))
 
 pub returns-in-AtGuard : goal.returns-in-AtGuard
-returns-in-AtGuard c =     let a = c.args in
+returns-in-AtGuard c = let a = c.args in
     subst⁻¹ (λ (w : Wait). Holds a.queue.now a.front a.queued (readiness_of w) UntrueGuard) c.in-AtGuard.is
     (record { within = tt; goes_on_holds = λ r further d ns e. refl })

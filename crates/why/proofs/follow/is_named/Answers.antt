@@ -18,7 +18,6 @@ bounds-numbers-i c = omega arith
 
 pub returns-then-numbers-i : goal.returns-then-numbers-i
 returns-then-numbers-i c =
-
     named_at c.args.number c.args.numbers.now c.args.n c.loop-i.i c.loop-i-test.true (omega arith) c.if-numbers-i.true
 
 pub overflow_add-i : goal.overflow_add-i
@@ -32,5 +31,4 @@ loop-i-preserved c = (omega arith, below_more _ _ c.loop-i.invariant.1 c.if-numb
 
 pub returns : goal.returns
 returns c =
-
     unnamed c.args.number c.args.numbers.now c.args.n (omega arith) (λ k h. c.loop-i.invariant.1 k (omega arith))
