@@ -1,7 +1,7 @@
 -- The chain of a stuck state, as the code has it.
 -- Assumes nothing.
-use Rattle.std.specs.Prelude.{ℕ, suc, ◌<◌, ◌≤◌, ◌≡◌, Bool, false, List, [], ℤ, take}
-use Rattle.std.proofs.Math.Option.{Option, none, some}
+use Rattle.std.specs.Prelude.{ℕ, suc, ◌<◌, ◌≡◌, Bool, false, List, [], ℤ, take}
+use Rattle.std.proofs.Math.Option.{Option, some}
 use Rattle.rules.specs.Recipe.{Recipe}
 use Rattle.rules.specs.Table.{recipe_of}
 use Rattle.rules.specs.State.{Task, State}

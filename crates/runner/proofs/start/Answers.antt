@@ -1,5 +1,4 @@
-use mathlib.Core.Path.{◌≡◌, refl, sym, ap, ◌∙◌}
-use Rattle.rules.specs.Table.{fine, check}
+use mathlib.Core.Path.{refl, sym, ap, ◌∙◌}
 use Rattle.rules.specs.State.{write_block}
 use Rattle.rules.specs.Answers.{of_table}
 use Rattle.rules.proofs.Answers.{check-number}

@@ -2,15 +2,6 @@ use borrow.Author.Rules.{rules}
 use Rattle.rules.specs.Why.{end_number}
 use Rattle.why.proofs.end_number.Goals as goal
 
-pub enum_told-1 : goal.enum_told-1
-enum_told-1 c = search rules
-
-pub enum_told-in-NeverIssued : goal.enum_told-in-NeverIssued
-enum_told-in-NeverIssued c = search rules
-
-pub enum_told-in-UntrueGuard : goal.enum_told-in-UntrueGuard
-enum_told-in-UntrueGuard c = search rules
-
 pub returns-in-NamedEarlier : goal.returns-in-NamedEarlier
 unfolding end_number
 returns-in-NamedEarlier c = search rules

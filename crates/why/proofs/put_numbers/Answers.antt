@@ -1,10 +1,9 @@
-use Prim.Native.Nat.{ℕ, ◌*◌, ◌≤◌, ◌-◌}
+use Prim.Native.Nat.{ℕ, ◌*◌}
 use mathlib.Core.Path.{◌≡◌, refl, sym, ap, ◌∙◌}
 use mathlib.Core.List.{◌++◌}
 use native.Mathlib.Omega.{arith}
 use lib.ListN.{length, get_or, take, drop}
 use lib.Seq.{length-sets}
-use borrow.Author.Rules.{rules}
 use Rattle.rules.specs.Fields.{bytes2}
 use Rattle.rules.specs.Why.{halves}
 use Rattle.why.proofs.Naming.{numbers_more}

@@ -1,13 +1,8 @@
-use Prim.Native.Nat.{ℕ, ◌*◌, ◌≤◌, ◌-◌}
-use mathlib.Core.Path.{◌≡◌, refl, sym, ap, ◌∙◌}
+use Prim.Native.Nat.{◌*◌, ◌≤◌, ◌-◌}
+use mathlib.Core.Path.{◌≡◌}
 use mathlib.Core.List.{◌++◌}
-use native.Mathlib.Omega.{arith}
-use lib.ListN.{length, get_or, take, drop}
-use lib.Seq.{length-sets}
-use borrow.Author.Rules.{rules}
-use Rattle.rules.specs.Fields.{bytes2}
+use lib.ListN.{length, take, drop}
 use Rattle.rules.specs.Why.{halves}
-use Rattle.why.proofs.Naming.{numbers_more}
 use Rattle.why.proofs.put_numbers.Given as goal
 
 abbrev pub invariant-loop-i : goal.invariant-loop-i

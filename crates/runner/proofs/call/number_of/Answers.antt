@@ -5,36 +5,11 @@ use mathlib.Core.Option.{some, map}
 use Rattle.rules.specs.Scheduler.{number_of}
 use Rattle.count.specs.declared.Stop.{Stop}
 use Rattle.count.specs.Along.{ending_of, is_more}
-use borrow.Author.Rules.{rules}
 use Rattle.runner.proofs.call.number_of.Goals as goal
 
 -- what is asked, by the stop
 abbrev Due : ℕ → Stop → Type 0
 Due n s = some n ≡ map number_of (ending_of s)
-
-pub enum_told-1 : goal.enum_told-1
-enum_told-1 c = search rules
-
-pub enum_told-in-Finished : goal.enum_told-in-Finished
-enum_told-in-Finished c = search rules
-
-pub enum_told-in-Paused : goal.enum_told-in-Paused
-enum_told-in-Paused c = search rules
-
-pub enum_told-in-Stuck : goal.enum_told-in-Stuck
-enum_told-in-Stuck c = search rules
-
-pub enum_told-in-Tasks : goal.enum_told-in-Tasks
-enum_told-in-Tasks c = search rules
-
-pub enum_told-in-Spent : goal.enum_told-in-Spent
-enum_told-in-Spent c = search rules
-
-pub enum_told-in-Logfull : goal.enum_told-in-Logfull
-enum_told-in-Logfull c = search rules
-
-pub enum_told-in-NoValue : goal.enum_told-in-NoValue
-enum_told-in-NoValue c = search rules
 
 pub returns-in-More : goal.returns-in-More
 returns-in-More c = absurd (true≢false (sym (ap is_more c.in-More.is) ∙ c.requires))

@@ -1,6 +1,6 @@
 use Prim.Native.Nat.{ℕ}
 use mathlib.Core.List.{List}
-use mathlib.Core.Path.{◌≡◌, refl, sym, ap, ◌∙◌}
+use mathlib.Core.Path.{refl, sym, ap, ◌∙◌}
 use Rattle.rules.specs.Table as T
 use Rattle.rules.specs.Table.{fine, check, ◌else◌, recipe_of}
 use Rattle.rules.specs.Places.{is_place}

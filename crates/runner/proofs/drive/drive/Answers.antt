@@ -1,18 +1,14 @@
-use Prim.Native.Nat.{ℕ, ◌-◌, ◌≤◌}
-use mathlib.Core.Path.{◌≡◌, refl, sym, ap, ◌∙◌, subst, subst⁻¹}
-use mathlib.Core.List.{List}
+use Prim.Native.Nat.{ℕ}
+use mathlib.Core.Path.{◌≡◌, sym, ap, ◌∙◌, subst, subst⁻¹}
 use native.Mathlib.Omega.{arith}
-use lib.IntN.{ℤ}
 use mir.Syntax.{w32}
 use mir.Val.{to_z, of_z}
 use borrow.Author.Rules.{rules}
-use Rattle.rules.specs.State as R
 use Rattle.state.specs.declared.State.{State}
 use Rattle.state.specs.View.{view, Fine, turn}
 use Rattle.moves.specs.declared.Move.{Move}
-use Rattle.count.specs.declared.Count.{Count}
 use Rattle.active.specs.Active.{left_by, Room}
-use Rattle.runner.proofs.Driving.{Driven, Came, left_with, driven_start, to_proceed, to_try, came, tried, came_ends, came_away, came_room, came_further, came_on, puts_back_else, tried-ends, tried-further, no_turn, turned_off, turned-some, to_take, tried-on}
+use Rattle.runner.proofs.Driving.{left_with, driven_start, to_proceed, to_try, came, tried, came_ends, came_away, came_room, came_further, came_on, puts_back_else, tried-ends, tried-further, no_turn, turned_off, turned-some, to_take, tried-on}
 use Rattle.runner.proofs.drive.drive.Goals as goal
 use Rattle.runner.proofs.drive.drive.Goals.{then-w-ne0, else-w-ne0}
 

@@ -1,28 +1,14 @@
-use Prim.Native.Nat.{ℕ, suc, ◌+◌, ◌-◌, ◌≤◌, ◌<◌}
-use mathlib.Core.Path.{◌≡◌, refl, sym, ap, ap₂, ◌∙◌, subst, subst⁻¹, subst₂}
-use mathlib.Core.Bool.{true, false}
-use mathlib.Core.Option.{Option, some}
-use mathlib.Core.List.{List, [], ◌∷◌, ◌++◌}
-use native.Mathlib.Omega.{arith}
-use native.Mathlib.Numerals.{add-one}
+use Prim.Native.Nat.{ℕ, suc, ◌-◌, ◌≤◌, ◌<◌}
+use mathlib.Core.Path.{◌≡◌}
+use mathlib.Core.Option.{Option}
+use mathlib.Core.List.{List, []}
 use lib.IntN.{ℤ}
-use lib.ListN.{length, take, set, length-set}
-use lib.Seq.{take-suc-set}
-use borrow.Author.Rules.{rules}
+use lib.ListN.{length, take}
 use Rattle.rules.specs.Table.{recipe_of}
-use Rattle.rules.specs.State.{Task, State}
-use Rattle.rules.specs.Scheduler.{Readiness, is_ready, can_go}
 use Rattle.rules.specs.Steps.{recipes}
-use Rattle.rules.specs.Why.{Chain, chain, among, follow}
-use Rattle.state.specs.View.{task_of, entry, queue_of}
-use Rattle.ready.specs.Ready.{readiness_of, idle}
-use Rattle.ready.proofs.Queue.{every_at}
-use Rattle.why.specs.declared.follow.Chain.{Chain as Chained}
-use Rattle.why.specs.declared.follow.End.{End}
-use Rattle.why.specs.declared.follow.Holder.{Holder}
-use Rattle.why.specs.declared.follow.End.TheVariants.{NamedEarlier, NeverIssued, UntrueGuard}
-use Rattle.why.specs.Follow.{end_of, chain_in, goes_on, Within, Holds, Following}
-use Rattle.why.proofs.Following.{closes, leads, more_left}
+use Rattle.rules.specs.Why.{Chain, follow}
+use Rattle.state.specs.View.{entry}
+use Rattle.ready.specs.Ready.{idle}
 use Rattle.why.proofs.follow.follow.Given as goal
 
 -- the chain from the front on

@@ -1,4 +1,4 @@
-use mathlib.Core.Path.{◌≡◌, sym, ap, ◌∙◌}
+use mathlib.Core.Path.{sym, ap, ◌∙◌}
 use lib.IntN.{ℤ}
 use mir.Facts.{to_z-of_z}
 use Rattle.state.specs.View.{queue_of}

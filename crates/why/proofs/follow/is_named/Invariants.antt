@@ -1,10 +1,6 @@
 use Prim.Native.Nat.{ℕ, ◌≤◌, ◌<◌, ◌-◌}
-use mathlib.Core.Path.{◌≡◌, sym, ap, ◌∙◌}
-use native.Mathlib.Omega.{arith}
+use mathlib.Core.Path.{◌≡◌}
 use lib.ListN.{get_or}
-use borrow.Author.Count.{below_more}
-use borrow.Author.Rules.{rules}
-use Rattle.why.proofs.Naming.{named_at, unnamed}
 use Rattle.why.proofs.follow.is_named.Given as goal
 
 abbrev pub invariant-loop-i : goal.invariant-loop-i
