@@ -110,7 +110,7 @@ pub fn proceed(
     before: Count,
 ) -> Proceeded
     requires { Active table.now next.now starts.now bounds.budget log.old (task_of first) variables.old bounds.queued bounds.issued before }
-    ensures last_value { ending_of result.stop ≡ none → (leaves result.last ≡ true) × Room result.last bounds.queued bounds.issued × (before.steps < result.count.steps) }
+    ensures leaves_so { ending_of result.stop ≡ none → (leaves result.last ≡ true) × Room result.last bounds.queued bounds.issued × (before.steps < result.count.steps) }
     ensures left { (u : Run (recipes (recipe_of table.now))) (given : List ℕ) (q : List (R.Task ℕ)) → length q ≡ bounds.queued → Along (recipe_of table.now) u bounds.budget given before log.old (busy bounds.issued variables.old (task_of first) q) → Left (recipe_of table.now) u bounds.budget given result.count log.new result.last (busy bounds.issued variables.new (task_of result.task) q) (ending_of result.stop) }
 {
     let mut t = first;

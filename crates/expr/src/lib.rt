@@ -22,7 +22,7 @@ pub enum Evaluated {
 // A variable's value; name 64 is the task's own parameter.
 pub fn variable(name: u8, variables: &[i32; 64], parameter: i32) -> i32
     requires { name ≤ 64 }
-    ensures { result ≡ read (record { variables = variables.entry.now; parameter = parameter }) name }
+    ensures { result ≡ read (record { variables = variables.now; parameter = parameter }) name }
 {
     if name == 64 {
         return parameter;
@@ -34,7 +34,7 @@ pub fn variable(name: u8, variables: &[i32; 64], parameter: i32) -> i32
 // The value of a constant or of a variable.
 fn leaf(part: &[u8], variables: &[i32; 64], parameter: i32) -> i32
     requires { Spelt part.now × (kind_of part.now < 11) }
-    ensures { some result ≡ value (record { variables = variables.entry.now; parameter = parameter }) (expr_of part.now) }
+    ensures { some result ≡ value (record { variables = variables.now; parameter = parameter }) (expr_of part.now) }
 {
     if part[0] == 9 {
         return signed(word_of(part));
@@ -47,7 +47,7 @@ fn leaf(part: &[u8], variables: &[i32; 64], parameter: i32) -> i32
 #[cycle(operand_operator)]
 fn operator(part: &[u8], variables: &[i32; 64], parameter: i32) -> Evaluated
     requires { Spelt part.now × (11 ≤ kind_of part.now) }
-    ensures { evaluated result ≡ value (record { variables = variables.entry.now; parameter = parameter }) (expr_of part.now) }
+    ensures { evaluated result ≡ value (record { variables = variables.now; parameter = parameter }) (expr_of part.now) }
 {
     let inner = enclosed(part);
     let Evaluated::Value(a) = operand(inner, variables, parameter) else {
@@ -73,7 +73,7 @@ fn operator(part: &[u8], variables: &[i32; 64], parameter: i32) -> Evaluated
 #[cycle(operand_operator)]
 fn operand(part: &[u8], variables: &[i32; 64], parameter: i32) -> Evaluated
     requires { Spelt part.now }
-    ensures { evaluated result ≡ value (record { variables = variables.entry.now; parameter = parameter }) (expr_of part.now) }
+    ensures { evaluated result ≡ value (record { variables = variables.now; parameter = parameter }) (expr_of part.now) }
 {
     if part[0] < 11 {
         return Evaluated::Value(leaf(part, variables, parameter));
@@ -88,7 +88,7 @@ fn operand(part: &[u8], variables: &[i32; 64], parameter: i32) -> Evaluated
 // variable without a call, only where two functions call it.)
 pub fn eval(part: &[u8], variables: &[i32; 64], parameter: i32) -> Evaluated
     requires { Spelt part.now }
-    ensures { evaluated result ≡ value (record { variables = variables.entry.now; parameter = parameter }) (expr_of part.now) }
+    ensures { evaluated result ≡ value (record { variables = variables.now; parameter = parameter }) (expr_of part.now) }
 {
     if part[0] >= 11 {
         let Evaluated::Value(v) = operator(part, variables, parameter) else {

@@ -63,7 +63,7 @@ fn turn_first(
 ) -> Count
     requires { Turning table.now queue.now variables.now front queued issued k budget log.old before }
     ensures along { (u : Run (recipes (recipe_of table.now))) (given : List ℕ) → Along (recipe_of table.now) u budget given before log.old (idle issued variables.now queue.now front queued) → Along (recipe_of table.now) u budget given result log.new (turn k (idle issued variables.now queue.now front queued)) }
-    ensures steps_value { (result.steps ≡ before.steps + k) × (result.written ≡ before.written + 8 * k) }
+    ensures counts { (result.steps ≡ before.steps + k) × (result.written ≡ before.written + 8 * k) }
 {
     let mut i: usize = 0;
     while i < k {
@@ -87,7 +87,7 @@ fn turn_first(
 fn take(queue: &[u64; 32], front: usize, k: usize, budget: u32, log: &mut [u8], n: Count) -> Tried
     requires { (front < 32) × (k < 32) × (n.steps ≤ budget) × (n.written ≤ length log.old) }
     ensures decides { (x : Recipe) (c : R.State) → Decides x (test (recipes x) (budget - n.steps) ((length log.old - n.written) / 8) (goes (some (taken (entry queue.now front k).number)) c)) result.stop n result.count log.old log.new }
-    ensures turns_value { result.turns ≡ k }
+    ensures turned_so { result.turns ≡ k }
 {
     let at = (front + k) % 32;
     let t = unpack(queue[at]);
@@ -119,7 +119,7 @@ pub fn try_all<'a>(
     before: Count,
 ) -> Tried
     requires { Idling table.now queue.now variables.now front bounds.queued bounds.issued bounds.budget log.old before }
-    ensures turns_le_queued { (result.turns ≤ bounds.queued) × (ending_of result.stop ≡ none → (result.turns < bounds.queued) × (before.steps < result.count.steps)) }
+    ensures within { (result.turns ≤ bounds.queued) × (ending_of result.stop ≡ none → (result.turns < bounds.queued) × (before.steps < result.count.steps)) }
     ensures tries { (u : Run (recipes (recipe_of table.now))) (given : List ℕ) → Along (recipe_of table.now) u bounds.budget given before log.old (idle bounds.issued variables.now queue.now front bounds.queued) → Tries (recipe_of table.now) u bounds.budget given result.count log.new (turn result.turns (idle bounds.issued variables.now queue.now front bounds.queued)) (ending_of result.stop) }
 {
     let queued = bounds.queued;

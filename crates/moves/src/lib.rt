@@ -34,7 +34,7 @@ pub enum Move {
 // The expression that a statement encloses first, worked out.
 fn value_of(part: &[u8], variables: &[i32; 64], parameter: i32) -> Evaluated
     requires { Enclosing part.now }
-    ensures { evaluated result ≡ value (record { variables = variables.entry.now; parameter = parameter }) (expr_of (inner part.now)) }
+    ensures { evaluated result ≡ value (record { variables = variables.now; parameter = parameter }) (expr_of (inner part.now)) }
 {
     eval(enclosed(part), variables, parameter)
 }

@@ -46,8 +46,8 @@ fn put_record(b: &mut [u8], at: usize, log: &[u8], from: usize) -> usize
 }
 
 fn put_lines(b: &mut [u8], log: &[u8], records: usize) -> usize
-    requires records_in_bounds { 8 * records ≤ length log.now }
-    requires records_in_bounds_2 { 30 * records ≤ length b.old }
+    requires in_log { 8 * records ≤ length log.now }
+    requires in_buffer { 30 * records ≤ length b.old }
     ensures puts { Puts b.old 0 (lines log.now records) result b.new }
     ensures upper_bound { result ≤ 30 * records }
 {
@@ -91,8 +91,8 @@ fn is_ending(number: u32) -> bool
 
 // A run's text.
 fn put_run(b: &mut [u8], a: Answer, log: &[u8]) -> usize
-    requires records_in_bounds { 8 * a.records ≤ length log.now }
-    requires records_in_bounds_2 { 30 * a.records + 30 ≤ length b.old }
+    requires in_log { 8 * a.records ≤ length log.now }
+    requires in_buffer { 30 * a.records + 30 ≤ length b.old }
     ensures { Puts b.old 0 (run_text (outcome_of a [] log.now)) result b.new }
 {
     if !is_ending(a.number) {
@@ -117,7 +117,7 @@ fn put_text(b: &mut [u8], table: &[u8], state: &mut [u8], log: &mut [u8]) -> usi
 
 // What is printed for a table, of at most 30 bytes a line: its length, and the bytes at the start of `out`.
 pub fn print_recipe(table: &[u8], out: &mut [u8; 131072]) -> usize
-    ensures value { (result ≡ length (printed table.now)) × (out.new ≡ printed table.now ++ drop result out.old) }
+    ensures text { (result ≡ length (printed table.now)) × (out.new ≡ printed table.now ++ drop result out.old) }
     ensures counts { Counts result out.new }
 {
     let mut state = [0u8; 520];

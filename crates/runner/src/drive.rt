@@ -56,8 +56,8 @@ fn none_yet() -> Count
 // The front of the queue as it becomes active: past its await, if it stands at one.
 fn onward(table: &[u8], next: &[u16; 4096], queue: &[u64; 32], front: usize) -> Task
     requires { Taking table.now next.now queue.now front }
-    ensures result_value { task_of result ≡ past_at (at (recipe_of table.now) (entry queue.now front 0).place) (entry queue.now front 0) }
-    ensures result_value_2 { task_of result ≡ go_to (entry queue.now front 0) result.place }
+    ensures past_await { task_of result ≡ past_at (at (recipe_of table.now) (entry queue.now front 0).place) (entry queue.now front 0) }
+    ensures moved { task_of result ≡ go_to (entry queue.now front 0) result.place }
 {
     let mut t = unpack(queue[front]);
     t.place = past(table, next, t.place);

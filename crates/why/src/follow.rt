@@ -116,8 +116,8 @@ pub fn follow(
     variables: &[i32; 64],
 ) -> Chain
     requires { Following table.now (idle issued variables.now queue.now front queued) queue.now front queued }
-    ensures front_value { follow (recipes (recipe_of table.now)) (suc queued) (idle issued variables.now queue.now front queued) [] (entry queue.now front 0) ≡ some (chain_in result) }
-    ensures count_bound { (result.count ≤ 33) × (length result.numbers ≡ 33) }
+    ensures follows { follow (recipes (recipe_of table.now)) (suc queued) (idle issued variables.now queue.now front queued) [] (entry queue.now front 0) ≡ some (chain_in result) }
+    ensures fits { (result.count ≤ 33) × (length result.numbers ≡ 33) }
 {
     let mut numbers = [0u16; 33];
     let mut n: usize = 0;

@@ -34,7 +34,7 @@ returns-then-not-is_more c =
     record { all = λ q h. c.decide-d.ensures (recipe_of a.table.now) (store_with a.bounds.issued l.variables) q (task_of l.t) refl h refl } in
     let over = sym c.is_more.ensures ∙ c.if-not-is_more.true in
     record {
-      last_value = λ e. absurd (not_more c.decide-d.result.stop over e);
+      leaves_so = λ e. absurd (not_more c.decide-d.result.stop over e);
       left = ends_all l.invariant c.move_of-m.ensures d w over;
     }
 
@@ -53,7 +53,7 @@ returns-then-leaves c =
     let goes : is_more c.decide-d.result.stop ≡ true = sym c.is_more.ensures ∙ c.if-not-is_more.false in
     let moves = c.move_of-m.ensures in
     record {
-      last_value = λ e. (
+      leaves_so = λ e. (
         sym c.leaves.ensures ∙ c.if-leaves.true,
         has_room l.invariant moves d w goes p.queue p.many p.reached,
         further l.invariant moves d p.queue p.many goes,

@@ -79,7 +79,7 @@ operator-bounds-part-1-2 t c = omega (arith, whole c.requires.0)
 pub operator-returns-then-b-eq0 : goal.operator-returns-then-b-eq0
 operator-returns-then-b-eq0 t c =
     let p = to_z-of_z c.ranges.parameter in
-    by_zero _ _ _ c.if-op-eq3.true (is-zero c.in-Value-operand.b (fits32 (omega arith)) c.if-b-eq0.true)
+    by_zero _ _ _ (search) (is-zero c.in-Value-operand.b (fits32 (omega arith)) c.if-b-eq0.true)
     ∙ value-two _ c.requires.0 c.requires.1 c.if-part-eq12.false c.enclosed-inner.ensures c.beyond.ensures (rw p at c.in-Value.ensures) (rw p at c.in-Value-operand.ensures)
 
 pub operator-apply2-requires : goal.operator-apply2-requires

@@ -32,7 +32,7 @@ returns-then-queued-eq0 c =
     let a = c.args in
     let w = (spells a.table.now (λ i. omega (arith, c.type_inv.table i)) c.requires.accepted).within in
     record {
-      turns_le_queued = (omega arith, λ e. absurd (not_more Finished refl e));
+      within = (omega arith, λ e. absurd (not_more Finished refl e));
       tries = λ u given x. finishes a.table.now w a.bounds.issued a.variables.now a.queue.now a.front a.bounds.queued u a.bounds.budget given a.before a.log.now x c.if-queued-eq0.true;
     }
 
@@ -45,7 +45,7 @@ returns-then-ahead-queued c =
     let w = (spells a.table.now (λ i. omega (arith, c.type_inv.table i)) c.requires.accepted).within in
     let some_queued = c.if-queued-eq0.false in
     record {
-      turns_le_queued = (omega arith, λ e. absurd (not_more Stuck refl e));
+      within = (omega arith, λ e. absurd (not_more Stuck refl e));
       tries = λ u given x. jams a.table.now w a.bounds.issued a.variables.now a.queue.now a.front a.bounds.queued u a.bounds.budget given a.before a.log.now x (omega arith)
           (sym c.first_ready-ahead.ensures ∙ c.if-ahead-queued.true);
     }
@@ -79,7 +79,7 @@ take-requires c =
     let k : Chosen (ahead_in a.table.now state) (a.bounds.budget - a.before.steps) ((length a.log.now - a.before.written) / 8) c.least-k.result =
     chosen _ _ _ _ _ c.least.ensures (rw c.first_ready-ahead.ensures at c.least-k.ensures) in
     let s = some_goes a.table.now a.queue.now a.variables.now a.front a.bounds.queued a.bounds.issued _ c.first_ready-ahead.ensures c.if-ahead-queued.false in
-    let n = c.turn_first-n.ensures.steps_value in
+    let n = c.turn_first-n.ensures.counts in
     let b = in_budget c.requires in
     let l = in_log c.requires in
     let f = (waiting c.requires).few in
@@ -97,12 +97,12 @@ returns c =
     chosen _ _ _ _ _ c.least.ensures (rw c.first_ready-ahead.ensures at c.least-k.ensures) in
     let s = some_goes a.table.now a.queue.now a.variables.now a.front a.bounds.queued a.bounds.issued _ c.first_ready-ahead.ensures c.if-ahead-queued.false in
     let h = k.in_ahead in
-    let n = f.ensures.steps_value in
-    let e = t.ensures.turns_value in
+    let n = f.ensures.counts in
+    let e = t.ensures.turned_so in
     let d : Takes a.bounds.budget (taken (entry a.queue.now a.front c.least-k.result).number) t.result.stop f.result t.result.count f.new.log t.new.log =
     record { all = t.ensures.decides } in
     record {
-      turns_le_queued = (omega arith, λ o. let m = takes_one (recipe_of a.table.now) state d o in (omega arith, omega (arith, n.0)));
+      within = (omega arith, λ o. let m = takes_one (recipe_of a.table.now) state d o in (omega arith, omega (arith, n.0)));
       tries = λ u given x.
           rw e
           (tries a.table.now w a.bounds.issued a.variables.now a.queue.now a.front a.bounds.queued u a.bounds.budget given _ _ _ _ _ _

@@ -18,4 +18,4 @@ counts {b} {b'} {r} p =
 
 pub returns : goal.returns
 unfolding printed
-returns c = let p = c.put_text.ensures in record { value = first p; counts = counts p }
+returns c = let p = c.put_text.ensures in record { text = first p; counts = counts p }

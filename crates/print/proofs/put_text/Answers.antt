@@ -15,7 +15,7 @@ pub put_run-requires : goal.put_run-requires
 put_run-requires c =
     let r = c.run-a in
     let n = r.ensures.run_answers.records_fit in
-    record { records_in_bounds = omega (arith, n, r.ensures.run_answers.log_length); records_in_bounds_2 = omega (arith, n, c.requires) }
+    record { in_log = omega (arith, n, r.ensures.run_answers.log_length); in_buffer = omega (arith, n, c.requires) }
 
 pub returns : goal.returns
 unfolding run_text

@@ -27,6 +27,6 @@ returns c =
     let a = c.args in
     let stuck = c.is_stuck.ensures.0 c.if-not-is_stuck.false in
     let x = c.follow-x.result in
-    let is = followed a.table.now a.s c.requires.0 c.requires.1 c.requires.2 stuck (chain_in x) c.follow-x.ensures.front_value in
-    chain-told (recipe_of a.table.now) (view a.s) a.chain.now x c.follow-x.ensures.count_bound.0 c.follow-x.ensures.count_bound.1 c.if-chain-ne66.false is
+    let is = followed a.table.now a.s c.requires.0 c.requires.1 c.requires.2 stuck (chain_in x) c.follow-x.ensures.follows in
+    chain-told (recipe_of a.table.now) (view a.s) a.chain.now x c.follow-x.ensures.fits.0 c.follow-x.ensures.fits.1 c.if-chain-ne66.false is
     c.end_number.result c.end_number.ensures _ c.put_numbers.ensures

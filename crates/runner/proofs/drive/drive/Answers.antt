@@ -25,26 +25,26 @@ proceed-p-requires c =
 
 pub returns-then-not-is_more : goal.returns-then-not-is_more
 returns-then-not-is_more c =
-    let m = came c.loop-s.invariant c.bounds_of-bounds.result c.proceed-p.result c.proceed-p.new.variables c.proceed-p.new.log c.bounds_of-bounds.ensures c.if-s.true c.proceed-p.ensures.last_value c.proceed-p.ensures.left in
+    let m = came c.loop-s.invariant c.bounds_of-bounds.result c.proceed-p.result c.proceed-p.new.variables c.proceed-p.new.log c.bounds_of-bounds.ensures c.if-s.true c.proceed-p.ensures.leaves_so c.proceed-p.ensures.left in
     rw c.stopped.ensures (came_ends m (sym c.is_more.ensures ∙ c.if-not-is_more.true))
 
 pub spawn-s-requires : goal.spawn-s-requires
 spawn-s-requires c =
-    let m = came c.loop-s.invariant c.bounds_of-bounds.result c.proceed-p.result c.proceed-p.new.variables c.proceed-p.new.log c.bounds_of-bounds.ensures c.if-s.true c.proceed-p.ensures.last_value c.proceed-p.ensures.left in
+    let m = came c.loop-s.invariant c.bounds_of-bounds.result c.proceed-p.result c.proceed-p.new.variables c.proceed-p.new.log c.bounds_of-bounds.ensures c.if-s.true c.proceed-p.ensures.leaves_so c.proceed-p.ensures.left in
     let more = sym c.is_more.ensures ∙ c.if-not-is_more.false in
     let r = subst (λ (m : Move). Room m c.loop-s.s.queued c.loop-s.s.issued) c.in-Spawns.is (came_room m more) in
     (m.fine_state, m.on, r.0, r.1)
 
 pub loop-s-preserved-in-Spawns : goal.loop-s-preserved-in-Spawns
 loop-s-preserved-in-Spawns c =
-    let m = came c.loop-s.invariant c.bounds_of-bounds.result c.proceed-p.result c.proceed-p.new.variables c.proceed-p.new.log c.bounds_of-bounds.ensures c.if-s.true c.proceed-p.ensures.last_value c.proceed-p.ensures.left in
+    let m = came c.loop-s.invariant c.bounds_of-bounds.result c.proceed-p.result c.proceed-p.new.variables c.proceed-p.new.log c.bounds_of-bounds.ensures c.if-s.true c.proceed-p.ensures.leaves_so c.proceed-p.ensures.left in
     let more = sym c.is_more.ensures ∙ c.if-not-is_more.false in
     let fits : to_z w32 (of_z w32 c.in-Spawns.v) ≡ c.in-Spawns.v = search rules in
     came_on m more c.spawn-s.result (rw fits at c.spawn-s.ensures.0 ∙ ap (λ (m : Move). left_by m (view (left_with c.loop-s.s c.proceed-p.result.task c.proceed-p.new.variables))) (sym c.in-Spawns.is)) c.spawn-s.ensures.1
 
 pub loop-s-smaller-in-Spawns : goal.loop-s-smaller-in-Spawns
 loop-s-smaller-in-Spawns c =
-    let m = came c.loop-s.invariant c.bounds_of-bounds.result c.proceed-p.result c.proceed-p.new.variables c.proceed-p.new.log c.bounds_of-bounds.ensures c.if-s.true c.proceed-p.ensures.last_value c.proceed-p.ensures.left in
+    let m = came c.loop-s.invariant c.bounds_of-bounds.result c.proceed-p.result c.proceed-p.new.variables c.proceed-p.new.log c.bounds_of-bounds.ensures c.if-s.true c.proceed-p.ensures.leaves_so c.proceed-p.ensures.left in
     let more = sym c.is_more.ensures ∙ c.if-not-is_more.false in
     let fits : to_z w32 (of_z w32 c.in-Spawns.v) ≡ c.in-Spawns.v = search rules in
     let n = came_further m more in
@@ -53,18 +53,18 @@ loop-s-smaller-in-Spawns c =
 
 pub end-s-requires : goal.end-s-requires
 end-s-requires c =
-    let m = came c.loop-s.invariant c.bounds_of-bounds.result c.proceed-p.result c.proceed-p.new.variables c.proceed-p.new.log c.bounds_of-bounds.ensures c.if-s.true c.proceed-p.ensures.last_value c.proceed-p.ensures.left in
+    let m = came c.loop-s.invariant c.bounds_of-bounds.result c.proceed-p.result c.proceed-p.new.variables c.proceed-p.new.log c.bounds_of-bounds.ensures c.if-s.true c.proceed-p.ensures.leaves_so c.proceed-p.ensures.left in
     m.fine_state
 
 pub loop-s-preserved-in-Ends : goal.loop-s-preserved-in-Ends
 loop-s-preserved-in-Ends c =
-    let m = came c.loop-s.invariant c.bounds_of-bounds.result c.proceed-p.result c.proceed-p.new.variables c.proceed-p.new.log c.bounds_of-bounds.ensures c.if-s.true c.proceed-p.ensures.last_value c.proceed-p.ensures.left in
+    let m = came c.loop-s.invariant c.bounds_of-bounds.result c.proceed-p.result c.proceed-p.new.variables c.proceed-p.new.log c.bounds_of-bounds.ensures c.if-s.true c.proceed-p.ensures.leaves_so c.proceed-p.ensures.left in
     let more = sym c.is_more.ensures ∙ c.if-not-is_more.false in
     came_on m more c.end-s.result (c.end-s.ensures.0 ∙ ap (λ (m : Move). left_by m (view (left_with c.loop-s.s c.proceed-p.result.task c.proceed-p.new.variables))) (sym c.in-Ends.is)) c.end-s.ensures.1
 
 pub loop-s-smaller-in-Ends : goal.loop-s-smaller-in-Ends
 loop-s-smaller-in-Ends c =
-    let m = came c.loop-s.invariant c.bounds_of-bounds.result c.proceed-p.result c.proceed-p.new.variables c.proceed-p.new.log c.bounds_of-bounds.ensures c.if-s.true c.proceed-p.ensures.last_value c.proceed-p.ensures.left in
+    let m = came c.loop-s.invariant c.bounds_of-bounds.result c.proceed-p.result c.proceed-p.new.variables c.proceed-p.new.log c.bounds_of-bounds.ensures c.if-s.true c.proceed-p.ensures.leaves_so c.proceed-p.ensures.left in
     let more = sym c.is_more.ensures ∙ c.if-not-is_more.false in
     let n = came_further m more in
     let b = (came_on m more c.end-s.result (c.end-s.ensures.0 ∙ ap (λ (m : Move). left_by m (view (left_with c.loop-s.s c.proceed-p.result.task c.proceed-p.new.variables))) (sym c.in-Ends.is)) c.end-s.ensures.1).along.in_budget in
@@ -72,18 +72,18 @@ loop-s-smaller-in-Ends c =
 
 pub put_back-s-requires : goal.put_back-s-requires
 put_back-s-requires c =
-    let m = came c.loop-s.invariant c.bounds_of-bounds.result c.proceed-p.result c.proceed-p.new.variables c.proceed-p.new.log c.bounds_of-bounds.ensures c.if-s.true c.proceed-p.ensures.last_value c.proceed-p.ensures.left in
+    let m = came c.loop-s.invariant c.bounds_of-bounds.result c.proceed-p.result c.proceed-p.new.variables c.proceed-p.new.log c.bounds_of-bounds.ensures c.if-s.true c.proceed-p.ensures.leaves_so c.proceed-p.ensures.left in
     (m.fine_state, m.on)
 
 pub loop-s-preserved-in_default : goal.loop-s-preserved-in_default
 loop-s-preserved-in_default c =
-    let m = came c.loop-s.invariant c.bounds_of-bounds.result c.proceed-p.result c.proceed-p.new.variables c.proceed-p.new.log c.bounds_of-bounds.ensures c.if-s.true c.proceed-p.ensures.last_value c.proceed-p.ensures.left in
+    let m = came c.loop-s.invariant c.bounds_of-bounds.result c.proceed-p.result c.proceed-p.new.variables c.proceed-p.new.log c.bounds_of-bounds.ensures c.if-s.true c.proceed-p.ensures.leaves_so c.proceed-p.ensures.left in
     let more = sym c.is_more.ensures ∙ c.if-not-is_more.false in
     came_on m more c.put_back-s.result (c.put_back-s.ensures.0 ∙ puts_back_else c.proceed-p.result.last (view (left_with c.loop-s.s c.proceed-p.result.task c.proceed-p.new.variables)) (came_away m more) c.in_default.not-Spawns c.in_default.not-Ends) c.put_back-s.ensures.1
 
 pub loop-s-smaller-in_default : goal.loop-s-smaller-in_default
 loop-s-smaller-in_default c =
-    let m = came c.loop-s.invariant c.bounds_of-bounds.result c.proceed-p.result c.proceed-p.new.variables c.proceed-p.new.log c.bounds_of-bounds.ensures c.if-s.true c.proceed-p.ensures.last_value c.proceed-p.ensures.left in
+    let m = came c.loop-s.invariant c.bounds_of-bounds.result c.proceed-p.result c.proceed-p.new.variables c.proceed-p.new.log c.bounds_of-bounds.ensures c.if-s.true c.proceed-p.ensures.leaves_so c.proceed-p.ensures.left in
     let more = sym c.is_more.ensures ∙ c.if-not-is_more.false in
     let n = came_further m more in
     let b = (came_on m more c.put_back-s.result (c.put_back-s.ensures.0 ∙ puts_back_else c.proceed-p.result.last (view (left_with c.loop-s.s c.proceed-p.result.task c.proceed-p.new.variables)) (came_away m more) c.in_default.not-Spawns c.in_default.not-Ends) c.put_back-s.ensures.1).along.in_budget in
@@ -94,22 +94,22 @@ try_all-w-requires c = rw c.bounds_of-bounds.ensures (to_try c.loop-s.invariant 
 
 pub turn-requires : goal.turn-requires
 turn-requires c =
-    let w = tried c.loop-s.invariant c.bounds_of-bounds.result c.try_all-w.result c.try_all-w.new.log c.bounds_of-bounds.ensures c.if-s.false c.try_all-w.ensures.turns_le_queued c.try_all-w.ensures.tries in
+    let w = tried c.loop-s.invariant c.bounds_of-bounds.result c.try_all-w.result c.try_all-w.new.log c.bounds_of-bounds.ensures c.if-s.false c.try_all-w.ensures.within c.try_all-w.ensures.tries in
     (c.loop-s.invariant.fine_state, c.if-s.false, w.1)
 
 pub returns-then-not-is_more-2 : goal.returns-then-not-is_more-2
 returns-then-not-is_more-2 c =
-    let w = tried c.loop-s.invariant c.bounds_of-bounds.result c.try_all-w.result c.try_all-w.new.log c.bounds_of-bounds.ensures c.if-s.false c.try_all-w.ensures.turns_le_queued c.try_all-w.ensures.tries in
+    let w = tried c.loop-s.invariant c.bounds_of-bounds.result c.try_all-w.result c.try_all-w.new.log c.bounds_of-bounds.ensures c.if-s.false c.try_all-w.ensures.within c.try_all-w.ensures.tries in
     rw c.stopped-then-not-is_more-2.ensures (tried-ends w.0 (sym c.is_more-else-s.ensures ∙ c.if-not-is_more-2.true) _ c.turn.ensures.0 c.turn.ensures.1)
 
 pub turn-s-requires : goal.turn-s-requires
 turn-s-requires c =
-    let w = tried c.loop-s.invariant c.bounds_of-bounds.result c.try_all-w.result c.try_all-w.new.log c.bounds_of-bounds.ensures c.if-s.false c.try_all-w.ensures.turns_le_queued c.try_all-w.ensures.tries in
+    let w = tried c.loop-s.invariant c.bounds_of-bounds.result c.try_all-w.result c.try_all-w.new.log c.bounds_of-bounds.ensures c.if-s.false c.try_all-w.ensures.within c.try_all-w.ensures.tries in
     (c.loop-s.invariant.fine_state, c.if-s.false, w.1)
 
 pub onward-t-requires : goal.onward-t-requires
 onward-t-requires c =
-    let w = tried c.loop-s.invariant c.bounds_of-bounds.result c.try_all-w.result c.try_all-w.new.log c.bounds_of-bounds.ensures c.if-s.false c.try_all-w.ensures.turns_le_queued c.try_all-w.ensures.tries in
+    let w = tried c.loop-s.invariant c.bounds_of-bounds.result c.try_all-w.result c.try_all-w.new.log c.bounds_of-bounds.ensures c.if-s.false c.try_all-w.ensures.within c.try_all-w.ensures.tries in
     let more = sym c.is_more-else-s.ensures ∙ c.if-not-is_more-2.false in
     let n = c.try_all-w.result.turns in
     let t : Turned c.loop-s.s n c.if-w-ne0.s =
@@ -121,7 +121,7 @@ onward-t-requires c =
 
 pub take_up-s-requires : goal.take_up-s-requires
 take_up-s-requires c =
-    let w = tried c.loop-s.invariant c.bounds_of-bounds.result c.try_all-w.result c.try_all-w.new.log c.bounds_of-bounds.ensures c.if-s.false c.try_all-w.ensures.turns_le_queued c.try_all-w.ensures.tries in
+    let w = tried c.loop-s.invariant c.bounds_of-bounds.result c.try_all-w.result c.try_all-w.new.log c.bounds_of-bounds.ensures c.if-s.false c.try_all-w.ensures.within c.try_all-w.ensures.tries in
     let more = sym c.is_more-else-s.ensures ∙ c.if-not-is_more-2.false in
     let n = c.try_all-w.result.turns in
     let t : Turned c.loop-s.s n c.if-w-ne0.s =
@@ -129,11 +129,11 @@ take_up-s-requires c =
       | then-w-ne0 b ↦ subst⁻¹ (Turned c.loop-s.s n) b.s-is b.turn-s.ensures
       | else-w-ne0 b ↦ subst⁻¹ (Turned c.loop-s.s n) b.s-is (no_turn n c.loop-s.s b.if-w-ne0.false, c.loop-s.invariant.fine_state)
     ] in
-    (t.1, turned_off w.0 more c.if-w-ne0.s t.0 t.1, turned-some w.0 more c.if-w-ne0.s t.0 t.1, c.onward-t.ensures.result_value_2)
+    (t.1, turned_off w.0 more c.if-w-ne0.s t.0 t.1, turned-some w.0 more c.if-w-ne0.s t.0 t.1, c.onward-t.ensures.moved)
 
 pub loop-s-preserved : goal.loop-s-preserved
 loop-s-preserved c =
-    let w = tried c.loop-s.invariant c.bounds_of-bounds.result c.try_all-w.result c.try_all-w.new.log c.bounds_of-bounds.ensures c.if-s.false c.try_all-w.ensures.turns_le_queued c.try_all-w.ensures.tries in
+    let w = tried c.loop-s.invariant c.bounds_of-bounds.result c.try_all-w.result c.try_all-w.new.log c.bounds_of-bounds.ensures c.if-s.false c.try_all-w.ensures.within c.try_all-w.ensures.tries in
     let more = sym c.is_more-else-s.ensures ∙ c.if-not-is_more-2.false in
     let n = c.try_all-w.result.turns in
     let t : Turned c.loop-s.s n c.if-w-ne0.s =
@@ -142,12 +142,12 @@ loop-s-preserved c =
       | else-w-ne0 b ↦ subst⁻¹ (Turned c.loop-s.s n) b.s-is (no_turn n c.loop-s.s b.if-w-ne0.false, c.loop-s.invariant.fine_state)
     ] in
     let e = c.onward-t.ensures in
-    let d = tried-on w.0 more c.if-w-ne0.s t.0 t.1 c.onward-t.result e.result_value e.result_value_2 c.take_up-s.result c.take_up-s.ensures.0 c.take_up-s.ensures.1 in
+    let d = tried-on w.0 more c.if-w-ne0.s t.0 t.1 c.onward-t.result e.past_await e.moved c.take_up-s.result c.take_up-s.ensures.0 c.take_up-s.ensures.1 in
     d
 
 pub loop-s-smaller : goal.loop-s-smaller
 loop-s-smaller c =
-    let w = tried c.loop-s.invariant c.bounds_of-bounds.result c.try_all-w.result c.try_all-w.new.log c.bounds_of-bounds.ensures c.if-s.false c.try_all-w.ensures.turns_le_queued c.try_all-w.ensures.tries in
+    let w = tried c.loop-s.invariant c.bounds_of-bounds.result c.try_all-w.result c.try_all-w.new.log c.bounds_of-bounds.ensures c.if-s.false c.try_all-w.ensures.within c.try_all-w.ensures.tries in
     let more = sym c.is_more-else-s.ensures ∙ c.if-not-is_more-2.false in
     let n = c.try_all-w.result.turns in
     let t : Turned c.loop-s.s n c.if-w-ne0.s =
@@ -156,7 +156,7 @@ loop-s-smaller c =
       | else-w-ne0 b ↦ subst⁻¹ (Turned c.loop-s.s n) b.s-is (no_turn n c.loop-s.s b.if-w-ne0.false, c.loop-s.invariant.fine_state)
     ] in
     let e = c.onward-t.ensures in
-    let d = tried-on w.0 more c.if-w-ne0.s t.0 t.1 c.onward-t.result e.result_value e.result_value_2 c.take_up-s.result c.take_up-s.ensures.0 c.take_up-s.ensures.1 in
+    let d = tried-on w.0 more c.if-w-ne0.s t.0 t.1 c.onward-t.result e.past_await e.moved c.take_up-s.result c.take_up-s.ensures.0 c.take_up-s.ensures.1 in
     let b = d.along.in_budget in
     let f = tried-further w.0 more in
     omega arith

@@ -26,6 +26,6 @@ returns c =
     let place = c.past.result in
     let s = stood c.args.queue.now c.args.front _ c.requires.front_fits c.unpack-t.ensures in
     record {
-      result_value = subst (λ (t : R.Task ℕ). go_to (task_of c.unpack-t.result) place ≡ past_at (at r t.place) t) s (sym (c.past.ensures (task_of c.unpack-t.result) refl));
-      result_value_2 = ap (λ (t : R.Task ℕ). go_to t place) s;
+      past_await = subst (λ (t : R.Task ℕ). go_to (task_of c.unpack-t.result) place ≡ past_at (at r t.place) t) s (sym (c.past.ensures (task_of c.unpack-t.result) refl));
+      moved = ap (λ (t : R.Task ℕ). go_to t place) s;
     }

@@ -143,7 +143,7 @@ pub returns-then-earlier : goal.returns-then-earlier
 returns-then-earlier c =
     let l = c.loop-x in
     let e = ends_again c.requires l.at l.n l.numbers l.invariant c.waiting_at-x.ensures c.ended.result c.ended.ensures c.is_named-earlier.ensures c.if-earlier.true in
-    record { front_value = e.0; count_bound = e.1 }
+    record { follows = e.0; fits = e.1 }
 
 pub held_by-holder-requires : goal.held_by-holder-requires
 held_by-holder-requires c =
@@ -163,11 +163,11 @@ returns-in-NeverIssued c =
     let l = c.loop-x in
     let b = behind_it c.requires l.at l.n l.numbers l.invariant c.waiting_at-x.ensures c.is_named-earlier.ensures c.if-earlier.false c.in-NeverIssued.ensures in
     let e = ends_so c.requires l.at l.n l.numbers l.invariant c.waiting_at-x.ensures NeverIssued c.ended-in-NeverIssued.result c.ended-in-NeverIssued.ensures b in
-    record { front_value = e.0; count_bound = e.1 }
+    record { follows = e.0; fits = e.1 }
 
 pub returns-in-UntrueGuard : goal.returns-in-UntrueGuard
 returns-in-UntrueGuard c =
     let l = c.loop-x in
     let b = behind_it c.requires l.at l.n l.numbers l.invariant c.waiting_at-x.ensures c.is_named-earlier.ensures c.if-earlier.false c.in-UntrueGuard.ensures in
     let e = ends_so c.requires l.at l.n l.numbers l.invariant c.waiting_at-x.ensures UntrueGuard c.ended-in-UntrueGuard.result c.ended-in-UntrueGuard.ensures b in
-    record { front_value = e.0; count_bound = e.1 }
+    record { follows = e.0; fits = e.1 }
