@@ -95,7 +95,7 @@ returns c =
     let state = idle a.bounds.issued a.variables.now a.queue.now a.front a.bounds.queued in
     let k : Chosen (ahead_in a.table.now state) (a.bounds.budget - a.before.steps) ((length a.log.now - a.before.written) / 8) c.least-k.result =
     chosen _ _ _ _ _ c.least.ensures (rw c.first_ready-ahead.ensures at c.least-k.ensures) in
-    let s = some_goes a.table.now a.queue.now a.variables.now a.front a.bounds.queued a.bounds.issued _ c.first_ready-ahead.ensures c.if-ahead-queued.false in
+    let some = some_goes a.table.now a.queue.now a.variables.now a.front a.bounds.queued a.bounds.issued _ c.first_ready-ahead.ensures c.if-ahead-queued.false in
     let h = k.in_ahead in
     let n = f.ensures.counts in
     let e = t.ensures.turned_so in
@@ -106,6 +106,6 @@ returns c =
       tries = λ u given x.
           rw e
           (tries a.table.now w a.bounds.issued a.variables.now a.queue.now a.front a.bounds.queued u a.bounds.budget given _ _ _ _ _ _
-          (f.ensures.along u given x) s h d
+          (f.ensures.along u given x) some h d
           (⊎_elim inl (λ g. inr (⊎_elim (λ i. inl (omega (arith, n.0))) (λ i. inr (omega (arith, n.1))) g)) k.reason));
     }
