@@ -223,6 +223,8 @@ fn a_link_stays_a_link() {
     assert_eq!(status(&recipe(&d, &["asm", "-o", "link"], TEXT_A.as_bytes())), 0);
     assert!(fs::symlink_metadata(d.join("link")).unwrap().is_symlink());
     assert_eq!(fs::read(d.join("real")).unwrap(), row_a());
+    // `rt ci` refuses a tree with a link in it, also below target/.
+    fs::remove_file(d.join("link")).unwrap();
 }
 
 #[test]
