@@ -1,13 +1,14 @@
 -- The active task on its way: from one of its steps to the next, and where it stops.
 -- Assumes nothing.
 use Prim.Native.Nat.{ℕ, ◌+◌, ◌-◌, ◌/◌, ◌≤◌, ◌<◌}
-use mathlib.Core.Path.{◌≡◌, refl, sym, ap, ◌∙◌, subst, subst⁻¹}
-use mathlib.Core.Bool.{true, false}
+use mathlib.Core.Path.{◌≡◌, sym, ap, ◌∙◌, subst, subst⁻¹}
+use mathlib.Core.Bool.{false}
 use mathlib.Core.Option.{none}
 use mathlib.Core.List.{List}
 use native.Mathlib.Omega.{arith}
 use lib.IntN.{ℤ}
 use lib.ListN.{length}
+use Rattle.std.specs.Prelude.{Result, Ok, Err}
 use Rattle.rules.specs.Recipe.{Recipe, Within}
 use Rattle.rules.specs.State.{Task}
 use Rattle.rules.specs.Scheduler.{next_act, next, test, Run}
@@ -17,10 +18,9 @@ use Rattle.ready.specs.Ready.{Placed}
 use Rattle.moves.specs.Moves.{act_of, store_with, MovesIn}
 use Rattle.count.specs.declared.Count.{Count}
 use Rattle.count.specs.declared.Stop.{Stop}
-use Rattle.count.specs.Along.{ending_of, is_more, Along, Decides, Told, Reached}
-use Rattle.active.specs.Active.{leaves, busy, left_by, Local, Room, Left}
+use Rattle.count.specs.Along.{ending_of, Along, Ended, Decides, Told, Reached}
+use Rattle.active.specs.Active.{leaves, busy, left_by, Local, Room}
 use Rattle.active.proofs.Acting.{stays, roomy}
-use Rattle.count.proofs.Stops.{more_none, ends_of}
 use Rattle.count.proofs.Along.{told, one_more, written-fits}
 
 -- ---- where the task has come to
@@ -32,13 +32,10 @@ pub record Running (r : Recipe) (budget queued issued : ℕ) (t₀ : Task ℕ) (
   pub same_length : length log ≡ length log₀
   pub grows : n₀.steps ≤ n.steps
 
-pub running-start : (r : Recipe) (budget queued issued : ℕ) (t : Task ℕ) (v : List ℤ) (n : Count) (log : List ℕ) → Running r budget queued issued t v n log t v n log
-running-start r budget queued issued t v n log = record { along = λ u given q l a. a; same_length = refl; grows = omega arith }
-
 -- what the tests before a step said
-pub record DecidesAll (r : Recipe) (budget queued issued : ℕ) (m : Move) (t : Task ℕ) (v : List ℤ) (stop : Stop) (n n' : Count) (log log' : List ℕ) : Type 0 where
+pub record DecidesAll (r : Recipe) (budget queued issued : ℕ) (m : Move) (t : Task ℕ) (v : List ℤ) (d : Result Count Stop) (n : Count) (log log' : List ℕ) : Type 0 where
   pub all : (q : List (Task ℕ)) → length q ≡ queued
-      → Decides r (test (recipes r) (budget - n.steps) ((length log - n.written) / 8) (next_act (recipes r) q (act_of m (store_with issued v) q t))) stop n n' log log'
+      → Decides r (test (recipes r) (budget - n.steps) ((length log - n.written) / 8) (next_act (recipes r) q (act_of m (store_with issued v) q t))) d n log log'
 
 module _ {r : Recipe} {budget queued issued : ℕ} {t₀ t : Task ℕ} {v₀ v : List ℤ} {n₀ n : Count} {log₀ log : List ℕ}
     (i : Running r budget queued issued t₀ v₀ n₀ log₀ t v n log) where
@@ -57,58 +54,50 @@ module _ {r : Recipe} {budget queued issued : ℕ} {t₀ t : Task ℕ} {v₀ v :
     placed = here.fits.tasks_fit.0.placed
 
   -- the tests say what comes next
-  module _ {m : Move} {stop : Stop} {n' : Count} {log' : List ℕ} (moves : MovesIn r v t m)
-      (d : DecidesAll r budget queued issued m t v stop n n' log log') where
+  module _ {m : Move} (moves : MovesIn r v t m) where
     acts : (q : List (Task ℕ)) → next (recipes r) (busy issued v t q) ≡ next_act (recipes r) q (act_of m (store_with issued v) q t)
     acts q = ap (next_act (recipes r) q) (moves.acts issued q)
 
-    pub told_all : Within r → (u : Run (recipes r)) (given : List ℕ) (q : List (Task ℕ)) → length q ≡ queued
-        → Along r u budget given n₀ log₀ (busy issued v₀ t₀ q) → Told r u budget given n' log' (busy issued v t q) (ending_of stop)
-    told_all w u given q l a = told w (i.along u given q l a) stop n' log' (rw (acts q) (d.all q l))
-
-    -- one step is counted
-    pub counted : (q : List (Task ℕ)) → length q ≡ queued → is_more stop ≡ true → n'.steps ≡ n.steps + 1
-    counted q l h = one_more r (test (recipes r) (budget - n.steps) ((length log - n.written) / 8) (next_act (recipes r) q (act_of m (store_with issued v) q t))) stop n n' log log' (d.all q l) h
-
-    pub further : (q : List (Task ℕ)) → length q ≡ queued → is_more stop ≡ true → n₀.steps < n'.steps
-    further q l h = let g = i.grows in omega (arith, counted q l h)
-
     -- where the call stops
-    pub ends_all : Within r → is_more stop ≡ false → (u : Run (recipes r)) (given : List ℕ) (q : List (Task ℕ)) → length q ≡ queued
-        → Along r u budget given n₀ log₀ (busy issued v₀ t₀ q) → Left r u budget given n' log' m (busy issued v t q) (ending_of stop)
-    ends_all w h u given q l a =
-        let (e, g) = ends_of stop h in
-        subst⁻¹ (Left r u budget given n' log' m (busy issued v t q)) g (subst (Told r u budget given n' log' (busy issued v t q)) g (told_all w u given q l a))
+    pub ends_all : {stop : Stop} {log' : List ℕ} → DecidesAll r budget queued issued m t v (Err stop) n log log' → Within r
+        → (u : Run (recipes r)) (given : List ℕ) (q : List (Task ℕ)) → length q ≡ queued → Along r u budget given n₀ log₀ (busy issued v₀ t₀ q)
+        → Ended r u given n log' (busy issued v t q) (ending_of stop)
+    ends_all {stop} {log'} d w u given q l a = told w (i.along u given q l a) (Err stop) log' (rw (acts q) (d.all q l))
 
-    module _ (w : Within r) (h : is_more stop ≡ true) where
-      made : (u : Run (recipes r)) (given : List ℕ) (q : List (Task ℕ)) → length q ≡ queued → Along r u budget given n₀ log₀ (busy issued v₀ t₀ q)
-          → Told r u budget given n' log' (busy issued v t q) none
-      made u given q l a = subst (Told r u budget given n' log' (busy issued v t q)) (more_none stop h) (told_all w u given q l a)
+    -- where it goes on
+    module _ {n' : Count} {log' : List ℕ} (d : DecidesAll r budget queued issued m t v (Ok n') n log log') where
+      -- one step is counted
+      pub counted : (q : List (Task ℕ)) → length q ≡ queued → n'.steps ≡ n.steps + 1
+      counted q l = one_more r (test (recipes r) (budget - n.steps) ((length log - n.written) / 8) (next_act (recipes r) q (act_of m (store_with issued v) q t))) n n' log log' (d.all q l)
 
-      -- no limit barred the step
-      pub has_room : (q : List (Task ℕ)) → length q ≡ queued → Reached r budget n₀ log₀ (busy issued v₀ t₀ q) → Room m queued issued
-      has_room q l a =
-          let (x, c, g, a') = made a.call a.given q l a.along in
-          subst (λ (k : ℕ). Room m k issued) l (roomy r q x c issued v t m (sym (acts q) ∙ g))
+      pub further : (q : List (Task ℕ)) → length q ≡ queued → n₀.steps < n'.steps
+      further q l = let g = i.grows in omega (arith, counted q l)
 
-      -- with what the move makes of the task and the variables
-      module _ (t' : Task ℕ) (v' : List ℤ) (f : Local m issued t t' v v') where
-        on : (u : Run (recipes r)) (given : List ℕ) (q : List (Task ℕ)) → length q ≡ queued → Along r u budget given n₀ log₀ (busy issued v₀ t₀ q)
-            → Along r u budget given n' log' (left_by m (busy issued v' t' q))
-        on u given q l a =
-            let (x, c, g, a') = made u given q l a in
-            subst⁻¹ (Along r u budget given n' log') (f r q x c (sym (acts q) ∙ g)) a'
+      module _ (w : Within r) where
+        made : (u : Run (recipes r)) (given : List ℕ) (q : List (Task ℕ)) → length q ≡ queued → Along r u budget given n₀ log₀ (busy issued v₀ t₀ q)
+            → Told r u budget given n' log' (busy issued v t q) none
+        made u given q l a = told w (i.along u given q l a) (Ok n') log' (rw (acts q) (d.all q l))
 
-        pub leaves_all : (u : Run (recipes r)) (given : List ℕ) (q : List (Task ℕ)) → length q ≡ queued → Along r u budget given n₀ log₀ (busy issued v₀ t₀ q)
-            → Left r u budget given n' log' m (busy issued v' t' q) (ending_of stop)
-        leaves_all u given q l a = subst⁻¹ (Left r u budget given n' log' m (busy issued v' t' q)) (more_none stop h) (on u given q l a)
+        -- no limit barred the step
+        pub has_room : (q : List (Task ℕ)) → length q ≡ queued → Reached r budget n₀ log₀ (busy issued v₀ t₀ q) → Room m queued issued
+        has_room q l a =
+            let (x, c, g, a') = made a.call a.given q l a.along in
+            subst (λ (k : ℕ). Room m k issued) l (roomy r q x c issued v t m (sym (acts q) ∙ g))
 
-        -- after a step that does not leave
-        pub again : (q : List (Task ℕ)) → length q ≡ queued → leaves m ≡ false → length log' ≡ length log
-            → Running r budget queued issued t₀ v₀ n₀ log₀ t' v' n' log'
-        again q₀ l₀ away e =
-            record {
-              along = λ u given q l a. subst (Along r u budget given n' log') (stays m (busy issued v' t' q) away) (on u given q l a);
-              same_length = e ∙ i.same_length;
-              grows = let g = i.grows in omega (arith, counted q₀ l₀ h);
-            }
+        -- with what the move makes of the task and the variables
+        module _ (t' : Task ℕ) (v' : List ℤ) (f : Local m issued t t' v v') where
+          pub leaves_all : (u : Run (recipes r)) (given : List ℕ) (q : List (Task ℕ)) → length q ≡ queued → Along r u budget given n₀ log₀ (busy issued v₀ t₀ q)
+              → Along r u budget given n' log' (left_by m (busy issued v' t' q))
+          leaves_all u given q l a =
+              let (x, c, g, a') = made u given q l a in
+              subst⁻¹ (Along r u budget given n' log') (f r q x c (sym (acts q) ∙ g)) a'
+
+          -- after a step that does not leave
+          pub again : (q : List (Task ℕ)) → length q ≡ queued → leaves m ≡ false → length log' ≡ length log
+              → Running r budget queued issued t₀ v₀ n₀ log₀ t' v' n' log'
+          again q₀ l₀ away e =
+              record {
+                along = λ u given q l a. subst (Along r u budget given n' log') (stays m (busy issued v' t' q) away) (leaves_all u given q l a);
+                same_length = e ∙ i.same_length;
+                grows = let g = i.grows in omega (arith, counted q₀ l₀);
+              }

@@ -1,20 +1,24 @@
 -- The steps of the active task, as the code makes them.
 -- Assumes nothing.
 use Rattle.std.specs.Prelude.{ℕ, ◌<◌, ◌≡◌, Bool, true, false, List, ℤ, length}
-use Rattle.std.proofs.Math.Option.{Option, none, some}
+use Rattle.std.specs.Prelude as P
+use Rattle.std.proofs.Math.Option.{Option, some}
 use Rattle.rules.specs.Recipe.{Recipe, Env}
-use Rattle.rules.specs.Table.{fine, check, recipe_of}
+use Rattle.rules.specs.Table.{recipe_of}
 use Rattle.rules.specs.State as R
 use Rattle.rules.specs.Log.{Event}
-use Rattle.rules.specs.Scheduler.{goes, next_act, Ending, Run}
+use Rattle.rules.specs.Scheduler.{goes, next_act, Run}
 use Rattle.rules.specs.Steps.{recipes}
 use Rattle.state.specs.View.{put_back, spawn, end}
 use Rattle.moves.specs.declared.Move.{Move}
 use Rattle.moves.specs.declared.Move.TheVariants.{Goes, Sets, Spawns, Gives, Waits, Ends, Lacks}
+use Rattle.links.specs.declared.Links.{Links}
 use Rattle.links.specs.Linked.{Linked}
 use Rattle.moves.specs.Moves.{act_of, store_with}
 use Rattle.count.specs.declared.Count.{Count}
-use Rattle.count.specs.Along.{Along, Ended, Reached}
+use Rattle.count.specs.declared.Bounds.{Bounds}
+use Rattle.count.specs.declared.Stop.{Stop}
+use Rattle.count.specs.Along.{ending_of, Along, Ended, Reached}
 
 abbrev pub env : List ℤ → R.Task ℕ → Env
 env variables t = record { variables = variables; parameter = t.parameter }
@@ -50,12 +54,11 @@ Local m issued t t' v v' = (r : Recipe) (q : List (R.Task ℕ)) (x : Option Even
     → left_by m (busy issued v' t' q) ≡ c
 
 -- a call on an accepted table has come to the task t, with the links of the table at hand
-pub record Active (table next starts : List ℕ) (budget : ℕ) (log : List ℕ) (t : R.Task ℕ) (variables : List ℤ) (queued issued : ℕ) (n : Count) : Type 0 where
-  pub accepted : check table ≡ fine
-  pub links : Linked (recipe_of table) next starts
+pub record Active (table : List ℕ) (links : Links) (b : Bounds) (log : List ℕ) (t : R.Task ℕ) (variables : List ℤ) (n : Count) : Type 0 where
+  pub linked : Linked (recipe_of table) links
   pub queue : List (R.Task ℕ)
-  pub many : length queue ≡ queued
-  pub reached : Reached (recipe_of table) budget n log (busy issued variables t queue)
+  pub many : length queue ≡ b.queued
+  pub reached : Reached (recipe_of table) b.budget n log (busy b.issued variables t queue)
 
 -- neither a limit nor a missing value bars the move
 abbrev pub Room : Move → (queued issued : ℕ) → Type 0
@@ -68,6 +71,6 @@ Room Ends queued issued = Unit {0}
 Room Lacks queued issued = ⊥
 
 -- the call ends at the state c, or goes on by what the move m of its active task does to the queue
-abbrev pub Left : (r : Recipe) → Run (recipes r) → (budget : ℕ) → (given : List ℕ) → Count → (log : List ℕ) → Move → R.State → Option Ending → Type 0
-Left r u budget given n log m c (some e) = Ended r u given n log c e
-Left r u budget given n log m c none = Along r u budget given n log (left_by m c)
+abbrev pub Left : (r : Recipe) → Run (recipes r) → (budget : ℕ) → (given : List ℕ) → Count → (log : List ℕ) → R.State → P.Result Move Stop → Type 0
+Left r u budget given n log c (P.Err stop) = Ended r u given n log c (ending_of stop)
+Left r u budget given n log c (P.Ok m) = Along r u budget given n log (left_by m c)

@@ -13,7 +13,7 @@ use borrow.Author.Tests.{eq-eqb, ne_eqb, le-leb, lt-leb}
 use Rattle.rules.specs.Fields.{word}
 use Rattle.rules.specs.Table.{fine, fault}
 use Rattle.rules.specs.State.{live_in, issued_in, number_in, unlike, head_fits, task_fits, unused_fits, record_fits, check_records, check_block}
-use Rattle.block.specs.Block.{long, record_in}
+use Rattle.block.specs.Block.{long}
 
 -- ---- a number among those of the records 1 to m
 
@@ -50,7 +50,7 @@ module _ (place : ℕ → Bool) (b : List ℕ) where
   record_used zero h l = absurd (h refl)
   record_used (suc i) h l = rw (le-leb (suc i) (live_in b) l)
 
-  pub record_unused : (i : ℕ) → ¬ (i ≡ 0) → live_in b < i → eqb (record_in b i) 0 ≡ record_fits place b i
+  pub record_unused : (i : ℕ) → ¬ (i ≡ 0) → live_in b < i → eqb (long b (8 * i)) 0 ≡ record_fits place b i
   unfolding record_fits unused_fits long
   record_unused zero h l = absurd (h refl)
   record_unused (suc i) h l = rw (lt-leb (suc i) (live_in b) l) (both_zero (word b (8 * suc i)) (word b (8 * suc i + 4)))

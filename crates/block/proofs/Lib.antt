@@ -1,3 +1,4 @@
 pub mod Checking
+pub mod Placing
 pub mod Reading
 pub mod Writing

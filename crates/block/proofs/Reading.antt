@@ -1,105 +1,74 @@
--- A record of a block as one number; the state that an accepted block says.
+-- The state that an accepted block says.
 -- Assumes nothing.
-use Prim.Native.Nat.{ℕ, zero, suc, ◌+◌, ◌-◌, ◌*◌, ◌/◌, ◌%◌, ◌≤◌, ◌<◌}
-use mathlib.Core.Path.{◌≡◌, refl, sym, ap, ◌∙◌}
+use Prim.Native.Nat.{ℕ, zero, suc, ◌+◌, ◌-◌, ◌≤◌, ◌<◌}
+use mathlib.Core.Path.{◌≡◌, refl, ap, ◌∙◌}
 use mathlib.Core.Bool.{cond}
 use mathlib.Core.List.{List, ◌∷◌}
 use native.Mathlib.Omega.{arith}
 use lib.Dec.{eqb, eqb-suc-zero}
 use lib.IntN.{ℤ}
-use lib.ListN.{get_or, take}
-use lib.Seq.{get_or-take}
-use Rattle.rules.specs.Fields.{half, word}
+use lib.ListN.{get_or}
+use Rattle.std.specs.Prelude.{Option, None, Some}
 use Rattle.rules.specs.State as R
 use Rattle.rules.specs.State.{Store, tab, issued_in, live_in, active_in, task_in, variables_in, state_of, read_block}
-use Rattle.rules.specs.Demand.{Bytes}
-use Rattle.rules.proofs.Lists.{tab-same, tab-first, get_or-tab}
+use Rattle.rules.proofs.Lists.{tab-same, tab-first}
 use Rattle.rules.proofs.Blocks.Accepted.{HeadFit}
 use Rattle.state.specs.declared.Task.{Task}
-use Rattle.state.specs.View.{task_of, unpacked, ring, entry, queue_of, active_of}
-use Rattle.rules.specs.Scheduler.{is}
-use Rattle.block.specs.Block.{long, record_in}
-
-pub record_task : (b : List ℕ) → Bytes b → (i : ℕ) → unpacked (record_in b i) ≡ task_in b i
-unfolding long
-record_task b bytes i =
-    let a = 8 * i in
-    let g0 = bytes a in
-    let g1 = bytes (a + 1) in
-    let g2 = bytes (a + 2) in
-    let g3 = bytes (a + 3) in
-    let k : a + 2 + 1 ≡ a + 3 = omega arith in
-    let w = word b (a + 4) in
-    let p : record_in b i / 65536 ≡ get_or b (a + 2) 0 + 256 * get_or b (a + 3) 0 + 65536 * w = omega arith in
-    let x : record_in b i % 65536 ≡ half b a = omega arith in
-    let y : record_in b i / 65536 % 65536 ≡ get_or b (a + 2) 0 + 256 * get_or b (a + 3) 0 = rw p (omega arith) in
-    let z : record_in b i / 4294967296 ≡ w = omega arith in
-    rw (x, y, z, k)
+use Rattle.state.specs.View.{task_of, no_task, ring, active_of}
+use Rattle.state.proofs.Ring.{tasks_from}
 
 -- at most one task is active, and none without live tasks
 pub active-below : (live active : ℕ) → active ≤ cond (eqb live 0) 0 1 → (active ≤ 1) × (active ≤ live)
 active-below zero active h = (omega arith, omega arith)
 active-below (suc live) active h = let g : active ≤ 1 = rw (eqb-suc-zero live) at h in (g, omega arith)
 
-pub count-active : (active : ℕ) → active ≤ 1 → is (eqb active 1) ≡ active
-count-active zero h = refl
-count-active (suc zero) h = refl
-count-active (suc (suc active)) h = absurd (omega arith)
+-- how many tasks are live, and active
+pub counts : {live taken : ℕ} (b : List ℕ) → HeadFit b → live ≡ get_or b 2 0 → taken ≡ get_or b 3 0
+    → (taken ≤ 1) × (taken ≤ live) × (live ≤ 32)
+counts b head l a =
+    let h = active-below (get_or b 2 0) (get_or b 3 0) head.active in
+    (omega (arith, h.0), omega (arith, h.1), omega (arith, head.few))
 
--- an entry of an array whose front is known
-at_index : (q : List ℕ) (n : ℕ) (f : ℕ → ℕ) → take n q ≡ tab n f → (i : ℕ) → i < n → get_or q i 0 ≡ f i
-at_index q n f e i h = sym (get_or-take n q i 0 h) ∙ ap (λ (p : List ℕ). get_or p i 0) e ∙ get_or-tab f n i 0 h
+-- the active task stands first in the array
+pub record Taken (taken : ℕ) (active : Option Task) (ts : List Task) : Type 0 where
+  pub none : taken ≡ 0 → active ≡ None
+  pub first : taken ≡ 1 → active ≡ Some (get_or ts 0 no_task)
 
--- a queue that starts at the ring's index k and does not go round
-straight : (q : List ℕ) (k n : ℕ) (f : ℕ → ℕ) → k + n ≤ 32
-    → take (k + n) q ≡ tab (k + n) f → queue_of q k n ≡ tab n (λ i. unpacked (f (k + i)))
-unfolding queue_of
-straight q k n f l e =
-    tab-same (entry q k) (λ i. unpacked (f (k + i))) n
-    (λ i h.
-    let r : ring k i ≡ k + i = omega arith in
-    ap unpacked (rw r (at_index q (k + n) f e (k + i) (omega arith))))
+first-rest : {A : Type 0} (f : ℕ → A) (n : ℕ) → 1 ≤ n → tab n f ≡ f 0 ∷ tab (n - 1) (λ i. f (suc i))
+first-rest f zero h = absurd (omega arith)
+first-rest f (suc n) h = let e : suc n - 1 ≡ n = omega arith in rw e (tab-first f n)
 
-module _ (b : List ℕ) (bytes : Bytes b) (s : Store) (t : Task) (q : List ℕ) where
-  -- the tasks from record k + 1 on
-  queued : (k n : ℕ) (j : ℕ → ℕ) → ((i : ℕ) → k + i + 1 ≡ j i) → k + n ≤ 32
-      → take (k + n) q ≡ tab (k + n) (λ i. record_in b (i + 1)) → queue_of q k n ≡ tab n (λ i. task_in b (j i))
-  queued k n j m l e =
-      straight q k n (λ i. record_in b (i + 1)) l e
-      ∙ tab-same (λ i. unpacked (record_in b (k + i + 1))) (λ i. task_in b (j i)) n
-      (λ i h. rw (m i) (record_task b bytes (j i)))
+module _ (b : List ℕ) (s : Store) (ts : List Task) (live : ℕ) (l : live ≤ 32)
+    (each : (i : ℕ) → i < live → task_of (get_or ts i no_task) ≡ task_in b (i + 1)) where
+  -- the tasks from record k + 1 on: the ring does not go round
+  queued : (k n : ℕ) (j : ℕ → ℕ) → ((i : ℕ) → k + i + 1 ≡ j i) → k + n ≡ live → tasks_from ts k n ≡ tab n (λ i. task_in b (j i))
+  queued k n j m e =
+      tab-same _ _ n
+      (λ i h. let r : ring k i ≡ k + i = omega arith in rw r (each (k + i) (omega arith) ∙ ap (task_in b) (m i)))
 
-  said : (live active : ℕ) → live ≤ 32 → active ≤ cond (eqb live 0) 0 1
-      → take live q ≡ tab live (λ i. record_in b (i + 1))
-      → task_of t ≡ unpacked (get_or q 0 0)
-      → record { store = s; active = active_of (eqb active 1) t; queue = queue_of q active (live - active) }
-      ≡ state_of s active (tab live (λ i. task_in b (i + 1)))
-  said live zero l h e g =
+  said : (taken : ℕ) (active : Option Task) → taken ≤ 1 → taken ≤ live → Taken taken active ts
+      → record { store = s; active = active_of active; queue = tasks_from ts taken (live - taken) }
+      ≡ state_of s taken (tab live (λ i. task_in b (i + 1)))
+  said zero active h g t =
       let n : live - 0 ≡ live = omega arith in
-      let z : 0 + live ≡ live = omega arith in
-      rw (n, queued 0 live (λ i. i + 1) (λ i. omega arith) (omega arith) (rw z e))
-  said zero (suc active) l h e g = absurd (omega arith)
-  said (suc live) (suc zero) l h e g =
-      let n : suc live - 1 ≡ live = omega arith in
-      let z : 1 + live ≡ suc live = omega arith in
-      let rest = tab live (λ i. task_in b (suc i + 1)) in
-      let r = queued 1 live (λ i. suc i + 1) (λ i. omega arith) (omega arith) (rw z e) in
-      let first = at_index q (suc live) (λ i. record_in b (i + 1)) e 0 (omega arith) in
-      rw (n, r, tab-first (λ i. task_in b (i + 1)) live)
-      (ap (λ (x : R.Task ℕ). state_of s 1 (x ∷ rest)) (g ∙ ap unpacked first ∙ record_task b bytes 1))
-  said (suc live) (suc (suc active)) l h e g = absurd (omega (arith, (active-below (suc live) (suc (suc active)) h).0))
+      rw (t.none refl, n, queued 0 live (λ i. i + 1) (λ i. omega arith) (omega arith))
+  said (suc zero) active h g t =
+      let rest = tab (live - 1) (λ i. task_in b (suc i + 1)) in
+      rw (t.first refl, queued 1 (live - 1) (λ i. suc i + 1) (λ i. omega arith) (omega arith), first-rest (λ i. task_in b (i + 1)) live g)
+      (ap (λ (t : R.Task ℕ). state_of s 1 (t ∷ rest)) (each 0 g))
+  said (suc (suc taken)) active h g t = absurd (omega arith)
 
-pub reads : (b : List ℕ) → Bytes b → HeadFit b → (issued live active : ℕ) (vs : List ℤ) (t : Task) (q : List ℕ)
-    → issued ≡ issued_in b → live ≡ live_in b → active ≡ active_in b → vs ≡ variables_in b
-    → take live q ≡ tab live (λ i. record_in b (i + 1)) → task_of t ≡ unpacked (get_or q 0 0)
+pub reads : (b : List ℕ) → HeadFit b → (issued live taken : ℕ) (vs : List ℤ) (active : Option Task) (ts : List Task)
+    → issued ≡ issued_in b → live ≡ live_in b → taken ≡ active_in b → vs ≡ variables_in b → Taken taken active ts
+    → ((i : ℕ) → i < live → task_of (get_or ts i no_task) ≡ task_in b (i + 1))
     → record {
       store = record { issued = issued; variables = vs };
-      active = active_of (eqb active 1) t;
-      queue = queue_of q active (live - active);
+      active = active_of active;
+      queue = tasks_from ts taken (live - taken);
     }
     ≡ read_block b
 unfolding read_block
-reads b bytes h issued live active vs t q i l a v e g =
-    said b bytes (record { issued = issued; variables = vs }) t q live active
-    (rw l h.few) (rw (l, a) h.active) e g
+reads b head issued live taken vs active ts i l a v t each =
+    let h = counts b head l a in
+    said b (record { issued = issued; variables = vs }) ts live h.2 each taken active h.0 h.1 t
     ∙ rw (i, l, a, v)

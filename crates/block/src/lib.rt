@@ -2,28 +2,20 @@
 
 #![tactic(auto)]
 
-ghost use Rattle.std.specs.Prelude.{◌≡◌, true, cond, ◌++◌, ◌+◌, ◌-◌, ◌*◌, ◌≤◌, ◌<◌, eqb, leb, length, take};
+ghost use Rattle.std.specs.Prelude.{◌≡◌, true, ℕ, cond, ◌++◌, ◌+◌, ◌-◌, ◌*◌, ◌/◌, ◌≤◌, ◌<◌, eqb, leb, length, take, get_or};
 ghost use Rattle.std.proofs.lemmas.List.Edits.{sets};
-ghost use Rattle.rules.specs.Table.{fine, fault, check, recipe_of};
+ghost use Rattle.rules.specs.Table.{fine, fault, recipe_of};
 ghost use Rattle.rules.specs.Places.{is_place};
-ghost use Rattle.rules.specs.State.{issued_in, live_in, number_in, unlike, head_fits, task_fits, record_fits, check_records, check_block, variables_in, read_block, write_block, tab};
-ghost use Rattle.table.specs.Check.{verdict_of};
-ghost use Rattle.rules.specs.Scheduler.{is};
-ghost use Rattle.state.specs.View.{view, Fine};
-ghost use Rattle.block.specs.Block.{long, OffsetOf, record_in, bytes8, head_of, ring_rows, value_rows};
+ghost use Rattle.rules.specs.State.{issued_in, live_in, number_in, unlike, head_fits, task_fits, record_fits, check_records, check_block, task_in, variables_in, read_block, task_row, write_block};
+ghost use Rattle.table.specs.Refusals.{verdict_of};
+ghost use Rattle.state.specs.View.{task_of, no_task, view};
+ghost use Rattle.block.specs.Block.{OffsetOf, long, task_from, head_of, ring_rows, unused_rows, value_rows};
 
 use fields::{half_at, put_half, put_value, put_word, value_at, word_at};
-use state::{State, pack, unpack};
-use table::check::Verdict;
-use table::record::wide;
-
-// The number in the 8 bytes from `at`.
-fn long_at(b: &[u8], at: usize) -> u64
-    requires { at + 8 ≤ length b.now }
-    ensures { result ≡ long b.now at }
-{
-    (word_at(b, at) as u64) + 4294967296 * (word_at(b, at + 4) as u64)
-}
+use state::{Queue, State, Task};
+use table::check::{Accepted, Sort};
+use table::record::kind_at;
+use table::refusal::{Refusal, Rule};
 
 // ---- the check
 
@@ -31,187 +23,163 @@ fn long_at(b: &[u8], at: usize) -> u64
 fn most_active(live: u8) -> u8
     ensures { result ≡ cond (eqb live 0) 0 1 }
 {
-    if live == 0 { 0 } else { 1 }
+    u8::from(live != 0)
 }
 
 // Record 0.
 #[tactic(auto, unfolding(rules::specs::State::head_fits))]
-fn head_fits(block: &[u8]) -> bool
-    requires { length block.now ≡ 520 }
+fn head_fits(block: &[u8; 520]) -> bool
     ensures { result ≡ head_fits block.now }
 {
-    if half_at(block, 0) < 1 {
-        return false;
-    }
-    if block[2] > 32 {
-        return false;
-    }
-    if block[3] > most_active(block[2]) {
-        return false;
-    }
-    word_at(block, 4) == 0
+    half_at(block, 0) >= 1
+        && block[2] <= 32
+        && block[3] <= most_active(block[2])
+        && word_at(block, 4) == 0
 }
 
 // Whether none of the records before record i has its number; `at` is the offset of record i.
-fn is_new(block: &[u8], i: usize, at: usize) -> bool
-    requires { (length block.now ≡ 520) × (1 ≤ i) × (i ≤ 32) × OffsetOf i at }
+fn is_new(block: &[u8; 520], i: usize, at: usize) -> bool
+    requires within { (1 ≤ i) × (i ≤ 32) }
+    requires offset { OffsetOf i at }
     ensures { result ≡ unlike block.now (number_in block.now i) (i - 1) }
 {
     let number = half_at(block, at);
-    let mut k: usize = 1;
     let mut earlier: usize = 8;
-    while k < i {
+    for _ in 1..i {
         if half_at(block, earlier) == number {
             return false;
         }
         earlier += 8;
-        k += 1;
     }
     true
 }
 
 // Whether index i of an accepted table is a place.
-fn is_place(table: &[u8], i: usize) -> bool
-    requires { check table.now ≡ fine }
-    ensures { result ≡ is_place (recipe_of table.now) i }
+fn is_place(table: Accepted, i: usize) -> bool
+    requires { i < 65536 }
+    ensures { result ≡ is_place (recipe_of table.entry.bytes.now) i }
 {
-    let records = table.len() / 8;
     if i == 0 {
         return false;
     }
-    if records < i {
-        return false;
+    match kind_at(table.bytes, 8 * i) {
+        Some(kind) => kind.sort() != Sort::Expression,
+        None => 8 * i == table.bytes.len(),
     }
-    if i == records {
-        return true;
-    }
-    let kind = wide(table[8 * i]);
-    if kind <= 8 {
-        return true;
-    }
-    kind == 13
 }
 
 // Record i, of a task, at its offset.
-fn task_fits(table: &[u8], block: &[u8], i: usize, at: usize) -> bool
-    requires { (check table.now ≡ fine) × (length block.now ≡ 520) × (1 ≤ i) × (i ≤ 32) × OffsetOf i at }
-    ensures { result ≡ task_fits (is_place (recipe_of table.now)) block.now i }
+#[tactic(auto, unfolding(rules::specs::State::task_fits))]
+fn task_fits(table: Accepted, block: &[u8; 520], i: usize, at: usize) -> bool
+    requires within { (1 ≤ i) × (i ≤ 32) }
+    requires offset { OffsetOf i at }
+    ensures { result ≡ task_fits (is_place (recipe_of table.entry.bytes.now)) block.now i }
 {
     let number = half_at(block, at);
-    if number < 1 {
-        return false;
-    }
-    if half_at(block, 0) < number {
-        return false;
-    }
-    if !is_new(block, i, at) {
-        return false;
-    }
-    let place = half_at(block, at + 2) as usize;
-    is_place(table, place)
+    1 <= number
+        && number <= half_at(block, 0)
+        && is_new(block, i, at)
+        && is_place(table, usize::from(half_at(block, at + 2)))
+}
+
+// The number in the 8 bytes from `at`.
+fn long_at(b: &[u8], at: usize) -> u64
+    requires { at + 8 ≤ length b.now }
+    ensures { result ≡ long b.now at }
+{
+    u64::from(word_at(b, at)) + 4294967296 * u64::from(word_at(b, at + 4))
 }
 
 // Record i, at its offset.
-fn record_fits(table: &[u8], block: &[u8], i: usize, at: usize) -> bool
-    requires { (check table.now ≡ fine) × (length block.now ≡ 520) × (i ≤ 32) × OffsetOf i at }
-    ensures { result ≡ record_fits (is_place (recipe_of table.now)) block.now i }
+fn record_fits(table: Accepted, block: &[u8; 520], i: usize, at: usize) -> bool
+    requires within { i ≤ 32 }
+    requires offset { OffsetOf i at }
+    ensures { result ≡ record_fits (is_place (recipe_of table.entry.bytes.now)) block.now i }
 {
     if i == 0 {
         return head_fits(block);
     }
-    if i <= wide(block[2]) {
+    if i <= usize::from(block[2]) {
         return task_fits(table, block, i, at);
     }
     long_at(block, at) == 0
 }
 
 // The first faulty record.
-fn check_records(table: &[u8], block: &[u8]) -> Verdict
-    requires { (check table.now ≡ fine) × (length block.now ≡ 520) }
-    ensures { verdict_of result ≡ check_records (is_place (recipe_of table.now)) block.now 33 0 }
+fn check_records(table: Accepted, block: &[u8; 520]) -> Result<(), Refusal>
+    ensures { verdict_of result ≡ check_records (is_place (recipe_of table.entry.bytes.now)) block.now 33 0 }
 {
-    let mut i: usize = 0;
     let mut at: usize = 0;
-    while i < 33 {
+    for i in 0..33 {
         if !record_fits(table, block, i, at) {
-            return Verdict {
-                number: 22,
-                place: i as u32,
-            };
+            return Err(Rule::StateRecord.at(i));
         }
         at += 8;
-        i += 1;
     }
-    Verdict {
-        number: 0,
-        place: 0,
-    }
+    Ok(())
 }
 
 // As many live tasks as numbers issued, or fewer.
-fn check_numbers(block: &[u8]) -> Verdict
-    requires { length block.now ≡ 520 }
+fn check_numbers(block: &[u8; 520]) -> Result<(), Refusal>
     ensures { verdict_of result ≡ cond (leb (live_in block.now) (issued_in block.now)) fine (fault 23 0) }
 {
-    if wide(block[2]) <= half_at(block, 0) as usize {
-        return Verdict {
-            number: 0,
-            place: 0,
-        };
+    if u16::from(block[2]) <= half_at(block, 0) {
+        return Ok(());
     }
-    Verdict {
-        number: 23,
-        place: 0,
-    }
+    Err(Rule::LiveTasks.at(0))
 }
 
 // A block of any content and length, against an accepted table.
-pub fn check(table: &[u8], block: &[u8]) -> Verdict
-    requires { check table.now ≡ fine }
-    ensures { verdict_of result ≡ check_block (is_place (recipe_of table.now)) block.now }
+pub fn check(table: Accepted, block: &[u8]) -> Result<(), Refusal>
+    ensures { verdict_of result ≡ check_block (is_place (recipe_of table.entry.bytes.now)) block.now }
 {
-    if block.len() != 520 {
-        return Verdict {
-            number: 21,
-            place: 0,
-        };
-    }
-    let records = check_records(table, block);
-    if records.number != 0 {
-        return records;
-    }
+    let Some(block) = block.as_array::<520>() else {
+        return Err(Rule::BlockLength.at(0));
+    };
+    check_records(table, block)?;
     check_numbers(block)
 }
 
 // ---- reading
 
-// The first n tasks, from record 1 on, as the front of an array.
-fn tasks_in(block: &[u8], n: usize) -> [u64; 32]
-    requires { (length block.now ≡ 520) × (n ≤ 32) }
-    ensures { take n result ≡ tab n (λ i. record_in block.now (i + 1)) }
+// The task in the 8 bytes from `at`.
+fn task_at(block: &[u8; 520], at: usize) -> Task
+    requires { at + 8 ≤ 520 }
+    ensures { task_of result ≡ task_from block.now at }
 {
-    let mut tasks = [0u64; 32];
-    let mut i: usize = 0;
+    Task {
+        number: half_at(block, at),
+        place: half_at(block, at + 2),
+        parameter: value_at(block, at + 4),
+    }
+}
+
+// The first n tasks, from record 1 on, as the front of an array.
+fn tasks_in(block: &[u8; 520], n: usize) -> [Task; 32]
+    requires { n ≤ 32 }
+    ensures { (i : ℕ) → i < n → task_of (get_or result i no_task) ≡ task_in block.now (i + 1) }
+{
+    let none = Task {
+        number: 0,
+        place: 0,
+        parameter: 0,
+    };
+    let mut tasks = [none; 32];
     let mut from: usize = 8;
-    while i < n {
-        tasks[i] = long_at(block, from);
+    for i in 0..n {
+        tasks[i] = task_at(block, from);
         from += 8;
-        i += 1;
     }
     tasks
 }
 
 // Records 33 to 64.
-fn variables_in(block: &[u8]) -> [i32; 64]
-    requires { length block.now ≡ 520 }
+fn variables_in(block: &[u8; 520]) -> [i32; 64]
     ensures { result ≡ variables_in block.now }
 {
     let mut variables = [0i32; 64];
-    let mut j: usize = 0;
-    while j < 64 {
-        let v = value_at(block, 264 + 4 * j);
-        variables[j] = v;
-        j += 1;
+    for j in 0..64 {
+        variables[j] = value_at(block, 264 + 4 * j);
     }
     variables
 }
@@ -219,35 +187,37 @@ fn variables_in(block: &[u8]) -> [i32; 64]
 // What an accepted block says. An active task stands first in the array, and the ring's front behind it.
 pub fn read(block: &[u8]) -> State
     requires { (length block.now ≡ 520) × (head_fits block.now ≡ true) }
-    ensures { (view result ≡ read_block block.now) × Fine result }
+    ensures { view result ≡ read_block block.now }
 {
-    let issued = half_at(block, 0);
-    let live = wide(block[2]);
-    let taken = wide(block[3]);
-    let queued = live - taken;
+    let Some(block) = block.as_array::<520>() else {
+        unreachable!();
+    };
+    let live = usize::from(block[2]);
+    let taken = usize::from(block[3]);
     let tasks = tasks_in(block, live);
-    let current = unpack(tasks[0]);
-    let variables = variables_in(block);
+    let active = if taken == 1 { Some(tasks[0]) } else { None };
     State {
-        issued: issued,
-        active: taken == 1,
-        current: current,
-        front: taken,
-        queued: queued,
-        queue: tasks,
-        variables: variables,
+        issued: half_at(block, 0),
+        active,
+        queue: Queue {
+            tasks,
+            front: taken,
+            len: live - taken,
+        },
+        variables: variables_in(block),
     }
 }
 
-// ---- writing
+// ---- writing (kept: the length in a clause. `write` is lent a slice: it would be made an array here, and a slice again at each put.)
 
-// The 8 bytes of a number.
-fn put_long(b: &mut [u8], at: usize, x: u64)
+// The 8 bytes of a task.
+fn put_task(b: &mut [u8], at: usize, task: Task)
     requires { at + 8 ≤ length b.old }
-    ensures { b.new ≡ sets b.old at (bytes8 x) }
+    ensures { b.new ≡ sets b.old at (task_row (task_of task)) }
 {
-    put_word(b, at, (x % 4294967296) as u32);
-    put_word(b, at + 4, (x / 4294967296) as u32);
+    put_half(b, at, task.number);
+    put_half(b, at + 2, task.place);
+    put_value(b, at + 4, task.parameter);
 }
 
 // Record 0.
@@ -261,70 +231,60 @@ fn put_head(b: &mut [u8], issued: u16, live: u8, taken: u8)
     put_word(b, 4, 0);
 }
 
-// The records from `first`, at the offset `start`, to before `end`: those of a ring from the index `front` on. Returns the offset of `end`.
-fn put_records(
-    b: &mut [u8],
-    records: [u64; 32],
-    front: usize,
-    first: usize,
-    end: usize,
-    start: usize,
-) -> usize
-    requires { (length b.old ≡ 520) × (front < 32) × (first ≤ end) × (end ≤ 33) × OffsetOf first start }
-    ensures { (take (8 * end) b.new ≡ take (8 * first) b.old ++ ring_rows records front (end - first)) × OffsetOf end result }
+// The records of the queue, from record `first` at the offset `start` on. Returns the offset of the record behind them.
+fn put_queue(b: &mut [u8], queue: &Queue, first: usize, start: usize) -> usize
+    requires room { (length b.old ≡ 520) × (first + queue.now.len ≤ 33) }
+    requires offset { OffsetOf first start }
+    ensures bytes { take result b.new ≡ take start b.old ++ ring_rows queue.now queue.now.len }
+    ensures offset { OffsetOf (first + queue.now.len) result }
 {
-    let mut k = first;
     let mut to = start;
-    while k < end {
-        let x = records[(front + (k - first)) % 32];
-        put_long(b, to, x);
+    for i in 0..queue.len {
+        put_task(b, to, queue.task(i));
         to += 8;
-        k += 1;
     }
     to
 }
 
-// Records 33 to 64.
-fn put_variables(b: &mut [u8], variables: [i32; 64])
-    requires { length b.old ≡ 520 }
-    ensures { b.new ≡ take 264 b.old ++ value_rows variables }
+// The records from `first`, at the offset `start`, to record 32: no task.
+fn put_unused(b: &mut [u8], first: usize, start: usize)
+    requires room { (length b.old ≡ 520) × (first ≤ 33) }
+    requires offset { OffsetOf first start }
+    ensures { take 264 b.new ≡ take start b.old ++ unused_rows (33 - first) }
 {
-    let mut j: usize = 0;
-    while j < 64 {
-        put_value(b, 264 + 4 * j, variables[j]);
-        j += 1;
+    let mut unused = start;
+    for _ in first..33 {
+        put_word(b, unused, 0);
+        put_word(b, unused + 4, 0);
+        unused += 8;
     }
 }
 
-// Where the queue's first record starts: behind record 1 where a task is active.
-fn queue_offset(active: bool) -> usize
-    ensures { OffsetOf (1 + is active) result }
+// Records 33 to 64.
+fn put_variables(b: &mut [u8], variables: &[i32; 64])
+    requires { length b.old ≡ 520 }
+    ensures { b.new ≡ take 264 b.old ++ value_rows variables.now }
 {
-    if active { 16 } else { 8 }
-}
-
-// The active tasks.
-fn how_many(on: bool) -> u8
-    ensures { result ≡ is on }
-{
-    if on { 1 } else { 0 }
+    for (j, v) in variables.iter().enumerate() {
+        put_value(b, 264 + 4 * j, *v);
+    }
 }
 
 // The block of a state.
-pub fn write(s: State, block: &mut [u8])
-    requires { (length block.old ≡ 520) × Fine s }
-    ensures { block.new ≡ write_block (view s) }
+pub fn write(s: &State, block: &mut [u8])
+    requires { length block.old ≡ 520 }
+    ensures { block.new ≡ write_block (view s.now) }
 {
-    let taken = how_many(s.active);
-    let first = 1 + wide(taken);
-    let queued = s.queued;
-    let next = first + queued;
-    put_head(block, s.issued, (next - 1) as u8, taken);
-    put_long(block, 8, pack(s.current));
-    let queue = s.queue;
-    let at = put_records(block, queue, s.front, first, next, queue_offset(s.active));
-    let unused = [0u64; 32];
-    put_records(block, unused, 0, next, 33, at);
-    let variables = s.variables;
-    put_variables(block, variables);
+    let taken = u8::from(s.active.is_some());
+    let live = s.queue.len + usize::from(taken);
+    put_head(block, s.issued, live as u8, taken);
+    let mut next = 8;
+    if let Some(task) = s.active {
+        put_task(block, 8, task);
+        next = 16;
+    }
+    let first = 1 + usize::from(taken);
+    let end = put_queue(block, &s.queue, first, next);
+    put_unused(block, live + 1, end);
+    put_variables(block, &s.variables);
 }

@@ -2,10 +2,10 @@
 -- Assumes nothing.
 use Prim.Native.Nat.{ℕ, suc, ◌+◌, ◌-◌, ◌*◌, ◌/◌, ◌≤◌, ◌<◌}
 use mathlib.Core.Path.{◌≡◌, refl, sym, ap, ◌∙◌}
-use mathlib.Core.Bool.{true, false≢true}
 use mathlib.Core.Option.{Option, none, some}
 use mathlib.Core.List.{List, [], ◌∷◌, ◌++◌, append-nil}
 use native.Mathlib.Omega.{arith}
+use Rattle.std.specs.Prelude.{Result, Ok, Err}
 use lib.ListN.{length, take, drop, length-append, length-drop}
 use lib.Seq.{sets, sets-eq, take_at, drop_at, drop-drop}
 use Rattle.rules.specs.Recipe.{Recipe, Within}
@@ -22,8 +22,8 @@ use Rattle.rules.proofs.Fit.{Fit}
 use Rattle.rules.proofs.Steps.{step_fits}
 use Rattle.count.specs.declared.Count.{Count}
 use Rattle.count.specs.declared.Stop.{Stop}
-use Rattle.count.specs.Along.{ending_of, is_more, Along, Ended, noted, Decides, Told}
-use Rattle.count.proofs.Stops.{stop-ends, stop_not_more}
+use Rattle.count.specs.Along.{ending_in, Along, Ended, noted, Decides, Told}
+use Rattle.count.proofs.Stops.{stop-ends}
 
 pub along-start : (r : Recipe) (budget : ℕ) (log : List ℕ) (c : State) (n : Count) → n.steps ≡ 0 → n.written ≡ 0 → Fit r c
     → Along r (run (recipes r) budget (room_of log) c) budget log n log c
@@ -101,6 +101,11 @@ module _ {r : Recipe} {u : Run (recipes r)} {budget : ℕ} {given : List ℕ} {n
         fits = step_fits r w c c' x a.fits h;
       }
 
+-- the count after what the tests decide
+abbrev pub count_after : Count → Result Count Stop → Count
+count_after n (Ok n') = n'
+count_after n (Err stop) = n
+
 -- what the tests say, by their outcome
 module _ {r : Recipe} {u : Run (recipes r)} {budget : ℕ} {given : List ℕ} {n : Count} {log : List ℕ} {c : State} (w : Within r) (a : Along r u budget given n log c) where
   ended : (e : Ending) → test (recipes r) (budget - n.steps) (room_of given - length a.events) (next (recipes r) c) ≡ stops e → Ended r u given n log c e
@@ -115,23 +120,22 @@ module _ {r : Recipe} {u : Run (recipes r)} {budget : ℕ} {given : List ℕ} {n
         fits = a.fits;
       }
 
-  pub told : (stop : Stop) (n' : Count) (log' : List ℕ)
-      → Decides r (test (recipes r) (budget - n.steps) ((length log - n.written) / 8) (next (recipes r) c)) stop n n' log log'
-      → Told r u budget given n' log' c (ending_of stop)
-  told stop n' log' = rw (room-left a) (go (test (recipes r) (budget - n.steps) (room_of given - length a.events) (next (recipes r) c)) refl)
+  pub told : (d : Result Count Stop) (log' : List ℕ)
+      → Decides r (test (recipes r) (budget - n.steps) ((length log - n.written) / 8) (next (recipes r) c)) d n log log'
+      → Told r u budget given (count_after n d) log' c (ending_in d)
+  told d log' = rw (room-left a) (go (test (recipes r) (budget - n.steps) (room_of given - length a.events) (next (recipes r) c)) refl)
     where
       go : (y : What (recipes r)) → test (recipes r) (budget - n.steps) (room_of given - length a.events) (next (recipes r) c) ≡ y
-          → Decides r y stop n n' log log' → Told r u budget given n' log' c (ending_of stop)
-      go (stops e) h d = rw (d.0, d.1, d.2, stop-ends e) (ended e h)
-      go (makes x c') h d =
+          → Decides r y d n log log' → Told r u budget given (count_after n d) log' c (ending_in d)
+      go (stops e) h k = rw (k.0, k.1, stop-ends e) (ended e h)
+      go (makes x c') h k =
           let (g, l, b) = test-makes (recipes r) _ _ (next (recipes r) c) x c' h in
-          rw d.0 (x, c', g, made a x w g (omega arith) l d.1 d.2 d.3)
+          rw k.0 (x, c', g, made a x w g (omega arith) l refl refl k.1)
 
 -- where the run goes on, one step is counted
-pub one_more : (r : Recipe) (y : What (recipes r)) (stop : Stop) (n n' : Count) (log log' : List ℕ) → Decides r y stop n n' log log' → is_more stop ≡ true
-    → n'.steps ≡ n.steps + 1
-one_more r (stops e) stop n n' log log' d h = absurd (false≢true (sym (ap is_more d.0 ∙ stop_not_more e) ∙ h))
-one_more r (makes x c) stop n n' log log' d h = d.1
+pub one_more : (r : Recipe) (y : What (recipes r)) (n n' : Count) (log log' : List ℕ) → Decides r y (Ok n') n log log' → n'.steps ≡ n.steps + 1
+one_more r (stops e) n n' log log' d = absurd (let z : ◌≡◌ {A = ℕ} 0 1 = let h = d.0 in cc in omega arith)
+one_more r (makes x c) n n' log log' d = let z : n' ≡ record { steps = n.steps + 1; written = n.written + 8 * size (recipes r) x } = let h = d.0 in cc in ap (λ (k : Count). k.steps) z
 
 pub written-fits : {r : Recipe} {u : Run (recipes r)} {budget : ℕ} {given log : List ℕ} {n : Count} {c : _} → Along r u budget given n log c
     → n.written ≤ length log

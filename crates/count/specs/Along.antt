@@ -1,6 +1,7 @@
 -- A run call on its way: what the code's count and log say of the definition's run.
 -- Assumes nothing.
-use Rattle.std.specs.Prelude.{ℕ, ◌+◌, ◌-◌, ◌*◌, ◌≤◌, ◌≡◌, Bool, true, false, List, ◌++◌, length, drop}
+use Rattle.std.specs.Prelude.{ℕ, ◌+◌, ◌-◌, ◌*◌, ◌≤◌, ◌≡◌, List, ◌++◌, length, drop}
+use Rattle.std.specs.Prelude as P
 use Rattle.std.proofs.Math.Option.{Option, none, some}
 use Rattle.std.proofs.lemmas.List.Edits.{sets}
 use Rattle.rules.specs.Recipe.{Recipe}
@@ -11,9 +12,11 @@ use Rattle.rules.specs.Steps.{recipes}
 use Rattle.rules.specs.Run.{room_of}
 use Rattle.rules.proofs.Scheduling.Loop.{At}
 use Rattle.rules.proofs.Fit.{Fit}
+use Rattle.events.specs.declared.Halt as E
+use Rattle.events.specs.Events.{halt_of}
 use Rattle.count.specs.declared.Count.{Count}
 use Rattle.count.specs.declared.Stop.{Stop}
-use Rattle.count.specs.declared.Stop.TheVariants.{More, Finished, Paused, Stuck, Tasks, Spent, Logfull, NoValue}
+use Rattle.count.specs.declared.Stop.TheVariants.{Finished, Paused, Stuck, Tasks, Spent, Logfull, NoValue}
 
 abbrev pub stop_of : Ending → Stop
 stop_of finished = Finished
@@ -24,23 +27,23 @@ stop_of (halted spent) = Spent
 stop_of logfull = Logfull
 stop_of (halted novalue) = NoValue
 
-abbrev pub ending_of : Stop → Option Ending
-ending_of More = none
-ending_of Finished = some finished
-ending_of Paused = some paused
-ending_of Stuck = some stuck
-ending_of Tasks = some (halted tasks)
-ending_of Spent = some (halted spent)
-ending_of Logfull = some logfull
-ending_of NoValue = some (halted novalue)
+abbrev pub ending_of : Stop → Ending
+ending_of Finished = finished
+ending_of Paused = paused
+ending_of Stuck = stuck
+ending_of Tasks = halted tasks
+ending_of Spent = halted spent
+ending_of Logfull = logfull
+ending_of NoValue = halted novalue
 
--- a call goes on where it has no ending
-abbrev pub goes_on : Option Ending → Bool
-goes_on none = true
-goes_on (some e) = false
+-- the ending of a call whose active task is halted
+abbrev pub halted_by : E.Halt → Ending
+halted_by h = halted (halt_of h)
 
-abbrev pub is_more : Stop → Bool
-is_more s = goes_on (ending_of s)
+-- the ending of a call that stops, and none of one that goes on
+abbrev pub ending_in : {T : Type 0} → P.Result T Stop → Option Ending
+ending_in (P.Ok x) = none
+ending_in (P.Err stop) = some (ending_of stop)
 
 -- Of the call u, which was given this log buffer, the steps counted are made, their records stand in the log, and c is the state now.
 pub record Along (r : Recipe) (u : Run (recipes r)) (budget : ℕ) (given : List ℕ) (n : Count) (log : List ℕ) (c : State) : Type 0 where
@@ -66,11 +69,11 @@ abbrev pub noted : List ℕ → ℕ → Option Event → List ℕ
 noted log a none = log
 noted log a (some x) = sets log a (event_row x)
 
--- what the tests before a step say, as the code has it: the stop, the new count and the new log
-abbrev pub Decides : (r : Recipe) → What (recipes r) → Stop → (n n' : Count) → (log log' : List ℕ) → Type 0
-Decides r (stops e) stop n n' log log' = (stop ≡ stop_of e) × (n' ≡ n) × (log' ≡ log)
-Decides r (makes x c) stop n n' log log' =
-    (stop ≡ More) × (n'.steps ≡ n.steps + 1) × (n'.written ≡ n.written + 8 * size (recipes r) x) × (log' ≡ noted log n.written x)
+-- what the tests before a step say, as the code has it: the stop, or the new count and the new log
+abbrev pub Decides : (r : Recipe) → What (recipes r) → P.Result Count Stop → (n : Count) → (log log' : List ℕ) → Type 0
+Decides r (stops e) d n log log' = (d ≡ P.Err (stop_of e)) × (log' ≡ log)
+Decides r (makes x c) d n log log' =
+    (d ≡ P.Ok (record { steps = n.steps + 1; written = n.written + 8 * size (recipes r) x })) × (log' ≡ noted log n.written x)
 
 -- the call ends at the state c, or a step is made from there
 abbrev pub Told : (r : Recipe) → Run (recipes r) → (budget : ℕ) → (given : List ℕ) → Count → (log : List ℕ) → State → Option Ending → Type 0

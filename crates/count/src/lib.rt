@@ -3,16 +3,16 @@
 #![tactic(auto)]
 
 ghost use Rattle.std.specs.Prelude.{◌≡◌, List, ℕ, suc, ◌-◌, ◌/◌, ◌≤◌, ◌<◌, length};
-ghost use Rattle.std.proofs.Math.Option.{none, some};
+ghost use Rattle.std.proofs.Math.Option.{some};
 ghost use Rattle.rules.specs.Recipe.{Recipe};
 ghost use Rattle.rules.specs.State as R;
-ghost use Rattle.rules.specs.Scheduler.{goes, next_act, test};
+ghost use Rattle.rules.specs.Scheduler.{goes, next_act, test, number_of};
 ghost use Rattle.rules.specs.Steps.{recipes};
 ghost use Rattle.moves.specs.Moves.{act_of};
 ghost use Rattle.events.specs.Events.{event_of};
-ghost use Rattle.count.specs.Along.{is_more, Decides};
+ghost use Rattle.count.specs.Along.{ending_of, halted_by, Decides};
 
-use events::{Event, Outcome, outcome_of, put_event};
+use events::{Event, Halt, outcome_of, put_event};
 use moves::Move;
 
 // The steps made and the bytes of the log written.
@@ -30,10 +30,9 @@ pub struct Bounds {
     pub budget: u32,
 }
 
-// The name of a stop, or that the run goes on.
-#[derive(Clone, Copy)]
+// The names of the stops.
+#[derive(Clone, Copy, PartialEq, Eq)]
 pub enum Stop {
-    More,
     Finished,
     Paused,
     Stuck,
@@ -43,97 +42,63 @@ pub enum Stop {
     NoValue,
 }
 
-// What the tests before a step decide, and the count after it.
-#[derive(Clone, Copy)]
-pub struct Decided {
-    pub stop: Stop,
-    pub count: Count,
-}
+impl From<Halt> for Stop {
+    ghost from_gives = { λ halt result. ending_of result ≡ halted_by halt };
 
-pub fn is_more(stop: Stop) -> bool
-    ensures { result ≡ is_more stop }
-{
-    match stop {
-        Stop::More => true,
-        Stop::Finished => false,
-        Stop::Paused => false,
-        Stop::Stuck => false,
-        Stop::Tasks => false,
-        Stop::Spent => false,
-        Stop::Logfull => false,
-        Stop::NoValue => false,
+    fn from(halt: Halt) -> Self {
+        match halt {
+            Halt::Tasks => Stop::Tasks,
+            Halt::Spent => Stop::Spent,
+            Halt::NoValue => Stop::NoValue,
+        }
     }
 }
 
-// A step within the budget that writes this event.
-pub fn note(e: Event, log: &mut [u8], n: Count) -> Decided
+impl From<Stop> for u32 {
+    ghost from_gives = { λ stop result. result ≡ number_of (ending_of stop) };
+
+    // The number of a stop's ending.
+    fn from(stop: Stop) -> Self {
+        match stop {
+            Stop::Finished => 0,
+            Stop::Paused => 1,
+            Stop::Stuck => 2,
+            Stop::Tasks => 3,
+            Stop::Spent => 4,
+            Stop::Logfull => 5,
+            Stop::NoValue => 24,
+        }
+    }
+}
+
+// A step within the budget that writes this event: the count after it, or that the log is full.
+pub fn note(e: Event, log: &mut [u8], n: Count) -> Result<Count, Stop>
     requires { (n.written ≤ length log.old) × (n.steps < 4294967295) }
-    ensures { (x : Recipe) (b : ℕ) (c : R.State) → Decides x (test (recipes x) (suc b) ((length log.old - n.written) / 8) (goes (some (event_of e)) c)) result.stop n result.count log.old log.new }
+    ensures { (x : Recipe) (b : ℕ) (c : R.State) → Decides x (test (recipes x) (suc b) ((length log.old - n.written) / 8) (goes (some (event_of e)) c)) result n log.old log.new }
 {
     if log.len() - n.written < 8 {
-        return Decided {
-            stop: Stop::Logfull,
-            count: n,
-        };
+        return Err(Stop::Logfull);
     }
     put_event(log, n.written, e);
-    Decided {
-        stop: Stop::More,
-        count: Count {
-            steps: n.steps + 1,
-            written: n.written + 8,
-        },
-    }
+    Ok(Count {
+        steps: n.steps + 1,
+        written: n.written + 8,
+    })
 }
 
-// A step within the budget that writes none.
-fn quiet(n: Count) -> Decided
-    requires { n.steps < 4294967295 }
-    ensures { (x : Recipe) (b room : ℕ) (c : R.State) (log : List ℕ) → Decides x (test (recipes x) (suc b) room (goes none c)) result.stop n result.count log log }
+// The tests before a step of the active task, in their order: the count after the step, or the stop.
+pub fn decide(m: Move, number: u16, bounds: Bounds, log: &mut [u8], n: Count) -> Result<Count, Stop>
+    requires { (n.written ≤ length log.old) × (n.steps ≤ bounds.budget) }
+    ensures { (x : Recipe) (s : R.Store) (q : List (R.Task ℕ)) (t : R.Task ℕ) → s.issued ≡ bounds.issued → length q ≡ bounds.queued → t.number ≡ number → Decides x (test (recipes x) (bounds.budget - n.steps) ((length log.old - n.written) / 8) (next_act (recipes x) q (act_of m s q t))) result n log.old log.new }
 {
-    Decided {
-        stop: Stop::More,
-        count: Count {
+    if n.steps == bounds.budget {
+        return Err(Stop::Paused);
+    }
+    match outcome_of(m, number, bounds.queued, bounds.issued)? {
+        Some(e) => note(e, log, n),
+        None => Ok(Count {
             steps: n.steps + 1,
             written: n.written,
-        },
-    }
-}
-
-// The tests before a step of the active task, in their order.
-pub fn decide(
-    m: Move,
-    number: u16,
-    queued: usize,
-    issued: u16,
-    budget: u32,
-    log: &mut [u8],
-    n: Count,
-) -> Decided
-    requires { (n.written ≤ length log.old) × (n.steps ≤ budget) }
-    ensures { (x : Recipe) (s : R.Store) (q : List (R.Task ℕ)) (t : R.Task ℕ) → s.issued ≡ issued → length q ≡ queued → t.number ≡ number → Decides x (test (recipes x) (budget - n.steps) ((length log.old - n.written) / 8) (next_act (recipes x) q (act_of m s q t))) result.stop n result.count log.old log.new }
-{
-    if n.steps == budget {
-        return Decided {
-            stop: Stop::Paused,
-            count: n,
-        };
-    }
-    let o = outcome_of(m, number, queued, issued);
-    match o {
-        Outcome::NoValue => Decided {
-            stop: Stop::NoValue,
-            count: n,
-        },
-        Outcome::Tasks => Decided {
-            stop: Stop::Tasks,
-            count: n,
-        },
-        Outcome::Spent => Decided {
-            stop: Stop::Spent,
-            count: n,
-        },
-        Outcome::Quiet => quiet(n),
-        Outcome::Went(e) => note(e, log, n),
+        }),
     }
 }

@@ -1,5 +1,6 @@
 -- What a step tells, as the code says it.
 -- Assumes nothing.
+use Rattle.std.specs.Prelude as P
 use Rattle.std.specs.Prelude.{ℕ, ◌≡◌, List, ◌∷◌, ◌++◌, length}
 use Rattle.std.proofs.Math.Option.{Option, none, some}
 use Rattle.rules.specs.Fields.{bytes2, bytes4}
@@ -9,8 +10,8 @@ use Rattle.rules.specs.Scheduler.{Halt, tasks, spent, novalue, Act, halts, does}
 use Rattle.moves.specs.declared.Move.{Move}
 use Rattle.events.specs.declared.Event.{Event}
 use Rattle.events.specs.declared.Event.TheVariants.{Spawned, Taken, Gave, Waits, Turned, Ended, Valve}
-use Rattle.events.specs.declared.Outcome.{Outcome}
-use Rattle.events.specs.declared.Outcome.TheVariants.{Went, Quiet, Tasks, Spent, NoValue}
+use Rattle.events.specs.declared.Halt as E
+use Rattle.events.specs.declared.Halt.TheVariants.{Tasks, Spent, NoValue}
 use Rattle.moves.specs.Moves.{act_of}
 
 abbrev pub event_of : Event → L.Event
@@ -27,19 +28,22 @@ pub data Facts : Type 0 where
   stopped : Halt → Facts
   went : Option L.Event → Facts
 
-abbrev pub facts_of : Outcome → Facts
-facts_of (Went e) = went (some (event_of e))
-facts_of Quiet = went none
-facts_of Tasks = stopped tasks
-facts_of Spent = stopped spent
-facts_of NoValue = stopped novalue
+abbrev pub halt_of : E.Halt → Halt
+halt_of Tasks = tasks
+halt_of Spent = spent
+halt_of NoValue = novalue
+
+abbrev pub facts_of : P.Result (P.Option Event) E.Halt → Facts
+facts_of (P.Ok (P.Some e)) = went (some (event_of e))
+facts_of (P.Ok P.None) = went none
+facts_of (P.Err h) = stopped (halt_of h)
 
 abbrev pub facts : Act Store (Task ℕ) L.Event → Facts
 facts (halts l) = stopped l
 facts (does s new y x) = went x
 
 -- the outcome is what the move says of a step of any task of this number, with so many tasks queued and this number issued
-pub record Tells (number queued issued : ℕ) (m : Move) (r : Outcome) : Type 0 where
+pub record Tells (number queued issued : ℕ) (m : Move) (r : P.Result (P.Option Event) E.Halt) : Type 0 where
   pub tells : (s : Store) (q : List (Task ℕ)) (t : Task ℕ) → s.issued ≡ issued → length q ≡ queued → t.number ≡ number
       → facts_of r ≡ facts (act_of m s q t)
 

@@ -24,11 +24,12 @@ pub enum Event {
     Valve(u16, u8, i32),
 }
 
-// The small facts of a step: it went on with its log event, or without one, or the stop's name.
+// The small facts of a step: it went on, with its log event if it has one, or the stop's name.
+pub type Outcome = Result<Option<Event>, Halt>;
+
+// The names of the stops of an active task's step.
 #[derive(Clone, Copy)]
-pub enum Outcome {
-    Went(Event),
-    Quiet,
+pub enum Halt {
     Tasks,
     Spent,
     NoValue,
@@ -38,28 +39,29 @@ pub enum Outcome {
 pub fn outcome_of(m: Move, number: u16, queued: usize, issued: u16) -> Outcome
     ensures { Tells number queued issued m result }
 {
-    match m {
-        Move::Goes(_) => Outcome::Quiet,
+    let event = match m {
+        Move::Goes(_) => return Ok(None),
         Move::Sets(name, v, _) => {
-            if name < 8 {
-                return Outcome::Went(Event::Valve(number, name, v));
+            if name >= 8 {
+                return Ok(None);
             }
-            Outcome::Quiet
+            Event::Valve(number, name, v)
         }
         Move::Spawns(_, _, _, _) => {
             if 31 <= queued {
-                return Outcome::Tasks;
+                return Err(Halt::Tasks);
             }
             if issued == 65535 {
-                return Outcome::Spent;
+                return Err(Halt::Spent);
             }
-            Outcome::Went(Event::Spawned(number, issued + 1))
+            Event::Spawned(number, issued + 1)
         }
-        Move::Gives(_) => Outcome::Went(Event::Gave(number)),
-        Move::Waits(z) => Outcome::Went(Event::Waits(number, z)),
-        Move::Ends => Outcome::Went(Event::Ended(number)),
-        Move::Lacks => Outcome::NoValue,
-    }
+        Move::Gives(_) => Event::Gave(number),
+        Move::Waits(z) => Event::Waits(number, z),
+        Move::Ends => Event::Ended(number),
+        Move::Lacks => return Err(Halt::NoValue),
+    };
+    Ok(Some(event))
 }
 
 // A log record by its fields.
@@ -79,7 +81,7 @@ pub fn put_event(log: &mut [u8], at: usize, e: Event)
     ensures { log.new ≡ sets log.old at (event_row (event_of e)) }
 {
     match e {
-        Event::Spawned(t, n) => put_row(log, at, 1, 0, t, n as u32),
+        Event::Spawned(t, n) => put_row(log, at, 1, 0, t, u32::from(n)),
         Event::Taken(t) => put_row(log, at, 2, 0, t, 0),
         Event::Gave(t) => put_row(log, at, 3, 0, t, 0),
         Event::Waits(t, z) => put_row(log, at, 4, 0, t, unsigned(z)),

@@ -41,7 +41,7 @@ abbrev pub Operator : List ℕ → Type 0
 Operator p = 11 ≤ kind_of p
 
 pub record Holds (p : List ℕ) : Type 0 where
-  pub leaf_is : kind_of p < 11 → ¬ (kind_of p ≡ 9) → kind_of p ≡ 10
+  pub no_leaf : ¬ (kind_of p ≡ 9) → ¬ (kind_of p ≡ 10) → Operator p
   pub constant-is : kind_of p ≡ 9 → expr_of p ≡ constant (value_of p)
   pub variable-named : kind_of p ≡ 10 → name_of p ≤ 64
   pub variable-is : kind_of p ≡ 10 → expr_of p ≡ variable (name_of p)
@@ -54,7 +54,7 @@ holds-encode : (e : Expr) (r : List ℕ) → NamedE e → Holds (encode_e e ++ r
 unfolding encode_e NamedE
 holds-encode (constant z) r w =
     record {
-      leaf_is = λ h g. absurd (g refl);
+      no_leaf = λ h g. absurd (h refl);
       constant-is = λ h. expr_of_lem (constant z) r w ∙ ap constant (sym (value_row 9 0 0 z r w));
       variable-named = λ h. absurd (omega arith);
       variable-is = λ h. absurd (omega arith);
@@ -65,7 +65,7 @@ holds-encode (constant z) r w =
     }
 holds-encode (variable n) r w =
     record {
-      leaf_is = λ h g. refl;
+      no_leaf = λ h g. absurd (g refl);
       constant-is = λ h. absurd (omega arith);
       variable-named = λ h. w;
       variable-is = λ h. expr_of_lem (variable n) r w;
@@ -78,7 +78,7 @@ holds-encode (two o a b) r w =
     let x = (parts_two o a b r).inner-is in
     let y = ap after x ∙ after-encode_e a (encode_e b) ∙ sym (append-nil (encode_e b)) in
     record {
-      leaf_is = λ h g. absurd (omega arith);
+      no_leaf = λ h g. omega arith;
       constant-is = λ h. absurd (omega arith);
       variable-named = λ h. absurd (omega arith);
       variable-is = λ h. absurd (omega arith);
@@ -90,7 +90,7 @@ holds-encode (two o a b) r w =
 holds-encode (one o a) r w =
     let x = (parts_one o a r).inner-is ∙ sym (append-nil (encode_e a)) in
     record {
-      leaf_is = λ h g. absurd (omega arith);
+      no_leaf = λ h g. omega arith;
       constant-is = λ h. absurd (omega arith);
       variable-named = λ h. absurd (omega arith);
       variable-is = λ h. absurd (omega arith);

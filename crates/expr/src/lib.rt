@@ -3,98 +3,71 @@
 #![tactic(auto)]
 
 ghost use Rattle.std.specs.Prelude.{◌≡◌, ◌≤◌, ◌<◌};
-ghost use Rattle.std.proofs.Math.Option.{some};
 ghost use Rattle.rules.specs.Recipe.{read, value};
 ghost use Rattle.rules.specs.Table.{kind_of, expr_of};
 ghost use Rattle.expr.specs.Spelt.{Spelt};
-ghost use Rattle.expr.specs.Evaluated.{evaluated};
+ghost use Rattle.values.specs.Operators.{option_of};
 
-use table::record::{beyond, enclosed, word_of};
-use values::{apply1, apply2, signed};
+use table::record::{Kind, beyond, enclosed, is, word_of};
+use values::{BinaryOperator, UnaryOperator, signed};
 
-// What working out an expression gives.
+// What a task's expressions are worked out with: the shared variables, and its own parameter.
 #[derive(Clone, Copy)]
-pub enum Evaluated {
-    Value(i32),
-    NoValue,
+pub struct Env<'a> {
+    pub variables: &'a [i32; 64],
+    pub parameter: i32,
 }
 
-// A variable's value; name 64 is the task's own parameter.
-pub fn variable(name: u8, variables: &[i32; 64], parameter: i32) -> i32
-    requires { name ≤ 64 }
-    ensures { result ≡ read (record { variables = variables.now; parameter = parameter }) name }
-{
-    if name == 64 {
-        return parameter;
+impl Env<'_> {
+    // A variable's value; name 64 is the task's own parameter.
+    pub fn variable(self, name: u8) -> i32
+        requires { name ≤ 64 }
+        ensures { result ≡ read (record { variables = self.entry.variables.now; parameter = self.entry.parameter }) name }
+    {
+        if name == 64 {
+            return self.parameter;
+        }
+        self.variables[usize::from(name)]
     }
-    let i = name as usize;
-    variables[i]
-}
-
-// The value of a constant or of a variable.
-fn leaf(part: &[u8], variables: &[i32; 64], parameter: i32) -> i32
-    requires { Spelt part.now × (kind_of part.now < 11) }
-    ensures { some result ≡ value (record { variables = variables.now; parameter = parameter }) (expr_of part.now) }
-{
-    if part[0] == 9 {
-        return signed(word_of(part));
-    }
-    variable(part[1], variables, parameter)
 }
 
 // An operator with its operands. Without the first one's value it has none, whatever the second's; of the operators only a quotient by 0
 // has none.
 #[cycle(operand_operator)]
-fn operator(part: &[u8], variables: &[i32; 64], parameter: i32) -> Evaluated
+fn operator(part: &[u8], env: Env) -> Option<i32>
     requires { Spelt part.now × (11 ≤ kind_of part.now) }
-    ensures { evaluated result ≡ value (record { variables = variables.now; parameter = parameter }) (expr_of part.now) }
+    ensures { option_of result ≡ value (record { variables = env.entry.variables.now; parameter = env.entry.parameter }) (expr_of part.now) }
 {
     let inner = enclosed(part);
-    let Evaluated::Value(a) = operand(inner, variables, parameter) else {
-        return Evaluated::NoValue;
-    };
-    if part[0] == 12 {
-        return Evaluated::Value(apply1(part[1], a));
+    let a = operand(inner, env)?;
+    if is(part, Kind::Unary) {
+        return Some(UnaryOperator::from(part[1]).apply(a));
     }
-    let Evaluated::Value(b) = operand(beyond(inner), variables, parameter) else {
-        return Evaluated::NoValue;
-    };
-    let op = part[1];
-    if op == 3 {
-        if b == 0 {
-            return Evaluated::NoValue;
-        }
-    }
-    Evaluated::Value(apply2(op, a, b))
+    let b = operand(beyond(inner), env)?;
+    BinaryOperator::from(part[1]).apply(a, b)
 }
 
-// An operand: a constant or a variable is worked out in place, without a step of the recursion. What an operator gave is taken apart and
-// made anew: handed on as it is, it would be copied as a whole right after its parts were stored, which takes twice the time.
+// An operand: a constant or a variable is worked out in place, without a step of the recursion.
 #[cycle(operand_operator)]
-fn operand(part: &[u8], variables: &[i32; 64], parameter: i32) -> Evaluated
+#[inline(always)]
+fn operand(part: &[u8], env: Env) -> Option<i32>
     requires { Spelt part.now }
-    ensures { evaluated result ≡ value (record { variables = variables.now; parameter = parameter }) (expr_of part.now) }
+    ensures { option_of result ≡ value (record { variables = env.entry.variables.now; parameter = env.entry.parameter }) (expr_of part.now) }
 {
-    if part[0] < 11 {
-        return Evaluated::Value(leaf(part, variables, parameter));
+    if is(part, Kind::Constant) {
+        return Some(signed(word_of(part)));
     }
-    let Evaluated::Value(v) = operator(part, variables, parameter) else {
-        return Evaluated::NoValue;
-    };
-    Evaluated::Value(v)
+    if is(part, Kind::Variable) {
+        return Some(env.variable(part[1]));
+    }
+    operator(part, env)
 }
 
-// The expression that a part starts with. (It does not go by `operand`: `operator` is kept as a function of its own, and a constant or a
-// variable without a call, only where two functions call it.)
-pub fn eval(part: &[u8], variables: &[i32; 64], parameter: i32) -> Evaluated
+// The expression that a part starts with.
+#[inline(always)]
+pub fn eval(part: &[u8], env: Env) -> Option<i32>
     requires { Spelt part.now }
-    ensures { evaluated result ≡ value (record { variables = variables.now; parameter = parameter }) (expr_of part.now) }
+    ensures { option_of result ≡ value (record { variables = env.entry.variables.now; parameter = env.entry.parameter }) (expr_of part.now) }
 {
-    if part[0] >= 11 {
-        let Evaluated::Value(v) = operator(part, variables, parameter) else {
-            return Evaluated::NoValue;
-        };
-        return Evaluated::Value(v);
-    }
-    Evaluated::Value(leaf(part, variables, parameter))
+    operand(part, env)
 }

@@ -12,7 +12,7 @@ use Rattle.rules.specs.Places.{Point, nowhere, enter, points_s, points_b}
 use Rattle.rules.proofs.Grammar.Rows.{span-encode_e, span-encode_s, stmt_pos, length-encode_e, length-encode_b, inner_s, parts_stmt, after-encode_e}
 use Rattle.rules.proofs.Grammar.Reading.{body_of_lem}
 use Rattle.rules.proofs.Places.{length-points_s}
-use Rattle.links.specs.Links.{linked, BodySpelt, first_of, place_after, body_follow}
+use Rattle.links.specs.Links.{linked, BodySpelt, first_of, place_after}
 
 pub linked-append : (ps qs : List (Point ℕ)) (i j : ℕ) (xs : List ℕ) → i + length ps ≡ j → linked (ps ++ qs) i xs ≡ linked qs j (linked ps i xs)
 unfolding linked
@@ -112,19 +112,19 @@ plain {at} r h = by_first (Plain at) (λ s b n w l c f g k xs. rw (body_of_lem (
 
 -- ---- a first statement that is a test
 
--- its record, then the body behind its expression
-pub record Test (at left : ℕ) (p : List ℕ) : Type 0 where
+-- its record, then the body behind its expression; k follows the test, and f the body
+pub record Test (at left : ℕ) (p : List ℕ) (k f : ℕ) : Type 0 where
   pub deep : 1 ≤ left
   pub whole : 8 + 8 * span_of (inner p) ≤ length (inner p)
   pub body : BodySpelt (at + 2 + span_of (inner p)) (left - 1) (after (inner p))
-  pub links : (k : ℕ) (xs : List ℕ) → linked (points_s (first_of (body_of p)) at k) at xs
-      ≡ linked (points_b (body_of (after (inner p))) (at + 2 + span_of (inner p)) (body_follow (kind_of p) at k)) (at + 2 + span_of (inner p)) (set xs at k)
+  pub links : (xs : List ℕ) → linked (points_s (first_of (body_of p)) at k) at xs
+      ≡ linked (points_b (body_of (after (inner p))) (at + 2 + span_of (inner p)) f) (at + 2 + span_of (inner p)) (set xs at k)
 
 -- of a statement s that encloses the expression e and the body d
-module _ (at left : ℕ) (s : Stmt) (b : Body) (n : ℕ) (e : Expr) (d : Body) (i : inner_s s ≡ encode_e e ++ encode_b d) where
+module _ (at left k f : ℕ) (s : Stmt) (b : Body) (n : ℕ) (e : Expr) (d : Body) (i : inner_s s ≡ encode_e e ++ encode_b d) where
   test_with : NamedB n (s ▸ b) → NamedB n d → 1 + levels_b d ≤ left → at + 1 + size_e e + size_b d ≤ 4096
-      → ((k : ℕ) (xs : List ℕ) → linked (points_s s at k) at xs ≡ linked (replicate (size_e e) nowhere ++ points_b d (at + 1 + size_e e) (body_follow (kind_of (encode_b (s ▸ b))) at k)) (at + 1) (set xs at k))
-      → Test at left (encode_b (s ▸ b))
+      → ((xs : List ℕ) → linked (points_s s at k) at xs ≡ linked (replicate (size_e e) nowhere ++ points_b d (at + 1 + size_e e) f) (at + 1) (set xs at k))
+      → Test at left (encode_b (s ▸ b)) k f
   unfolding encode_b
   test_with w v l c h =
       let p = encode_s s ++ encode_b b in
@@ -132,28 +132,46 @@ module _ (at left : ℕ) (s : Stmt) (b : Body) (n : ℕ) (e : Expr) (d : Body) (
       let a : after (inner p) ≡ encode_b d = ap after j ∙ after-encode_e e (encode_b d) in
       let o : 1 + span_of (inner p) ≡ size_e e = ap (λ (q : List ℕ). 1 + span_of q) j ∙ span-encode_e e (encode_b d) in
       let m : at + 2 + span_of (inner p) ≡ at + 1 + size_e e = omega arith in
-      let f : body_of p ≡ s ▸ b = body_of_lem (s ▸ b) n w in
-      let g : body_of (after (inner p)) ≡ d = ap body_of a ∙ body_of_lem d n v in
+      let g : body_of p ≡ s ▸ b = body_of_lem (s ▸ b) n w in
+      let h' : body_of (after (inner p)) ≡ d = ap body_of a ∙ body_of_lem d n v in
       record {
         deep = omega arith;
         whole = omega (arith, ap length j, length-append (encode_e e) (encode_b d), length-encode_e e);
         body = record { body = d; spelt = a; procedures = n; named = v; shallow = omega arith; few = omega arith };
-        links = λ k xs. rw (f, g, m) (h k xs ∙ linked_past (size_e e) (points_b d (at + 1 + size_e e) (body_follow (kind_of p) at k)) (at + 1) (set xs at k));
+        links = λ xs. rw (g, h', m) (h xs ∙ linked_past (size_e e) (points_b d (at + 1 + size_e e) f) (at + 1) (set xs at k));
       }
 
-abbrev Tests : ℕ → ℕ → List ℕ → Type 0
-Tests at left p = ¬ (kind_of p < 4) → ¬ (5 < kind_of p) → Test at left p
+-- where the body of an if leads is where the if does, and that of a while leads to the while
+abbrev Once : (at left k : ℕ) → List ℕ → Type 0
+Once at left k p = kind_of p ≡ 4 → Test at left p k k
 
-test_of : (at left : ℕ) (s : Stmt) (b : Body) (n : ℕ) → NamedB n (s ▸ b) → levels_b (s ▸ b) ≤ left → at + size_b (s ▸ b) ≤ 4096 → Tests at left (encode_b (s ▸ b))
+abbrev Again : (at left k : ℕ) → List ℕ → Type 0
+Again at left k p = kind_of p ≡ 5 → Test at left p k at
+
+once_of : (at left k : ℕ) (s : Stmt) (b : Body) (n : ℕ) → NamedB n (s ▸ b) → levels_b (s ▸ b) ≤ left → at + size_b (s ▸ b) ≤ 4096 → Once at left k (encode_b (s ▸ b))
 unfolding encode_s encode_b size_s size_b levels_s levels_b NamedS NamedB points_s linked inner_s
-test_of at left skip b n w l c f g = absurd (f (omega arith))
-test_of at left (assign v e) b n w l c f g = absurd (f (omega arith))
-test_of at left (if e d) b n w l c f g = test_with at left (if e d) b n e d refl w w.0.1 (omega arith) (omega arith) (λ k xs. refl)
-test_of at left (while e d) b n w l c f g = test_with at left (while e d) b n e d refl w w.0.1 (omega arith) (omega arith) (λ k xs. refl)
-test_of at left (spawn v p e) b n w l c f g = absurd (g (omega arith))
-test_of at left suspend b n w l c f g = absurd (g (omega arith))
-test_of at left (await v) b n w l c f g = absurd (g (omega arith))
-test_of at left (guard e) b n w l c f g = absurd (g (omega arith))
+once_of at left k skip b n w l c h = absurd (omega (arith, h))
+once_of at left k (assign v e) b n w l c h = absurd (omega (arith, h))
+once_of at left k (if e d) b n w l c h = test_with at left k k (if e d) b n e d refl w w.0.1 (omega arith) (omega arith) (λ xs. refl)
+once_of at left k (while e d) b n w l c h = absurd (omega (arith, h))
+once_of at left k (spawn v p e) b n w l c h = absurd (omega (arith, h))
+once_of at left k suspend b n w l c h = absurd (omega (arith, h))
+once_of at left k (await v) b n w l c h = absurd (omega (arith, h))
+once_of at left k (guard e) b n w l c h = absurd (omega (arith, h))
 
-pub test : {at left : ℕ} {p : List ℕ} → BodySpelt at left p → 0 < length p → Tests at left p
-test {at} {left} r h = by_first (Tests at left) (test_of at left) r h
+again_of : (at left k : ℕ) (s : Stmt) (b : Body) (n : ℕ) → NamedB n (s ▸ b) → levels_b (s ▸ b) ≤ left → at + size_b (s ▸ b) ≤ 4096 → Again at left k (encode_b (s ▸ b))
+unfolding encode_s encode_b size_s size_b levels_s levels_b NamedS NamedB points_s linked inner_s
+again_of at left k skip b n w l c h = absurd (omega (arith, h))
+again_of at left k (assign v e) b n w l c h = absurd (omega (arith, h))
+again_of at left k (if e d) b n w l c h = absurd (omega (arith, h))
+again_of at left k (while e d) b n w l c h = test_with at left k at (while e d) b n e d refl w w.0.1 (omega arith) (omega arith) (λ xs. refl)
+again_of at left k (spawn v p e) b n w l c h = absurd (omega (arith, h))
+again_of at left k suspend b n w l c h = absurd (omega (arith, h))
+again_of at left k (await v) b n w l c h = absurd (omega (arith, h))
+again_of at left k (guard e) b n w l c h = absurd (omega (arith, h))
+
+pub once : {at left : ℕ} {p : List ℕ} → BodySpelt at left p → 0 < length p → (k : ℕ) → Once at left k p
+once {at} {left} r h k = by_first (Once at left k) (once_of at left k) r h
+
+pub again : {at left : ℕ} {p : List ℕ} → BodySpelt at left p → 0 < length p → (k : ℕ) → Again at left k p
+again {at} {left} r h k = by_first (Again at left k) (again_of at left k) r h

@@ -5,10 +5,11 @@ use Rattle.rules.specs.Recipe.{Recipe}
 use Rattle.rules.specs.Places.{at, start}
 use Rattle.rules.specs.Standing.{next_of}
 use Rattle.links.specs.Links.{is_statement}
+use Rattle.links.specs.declared.Links.{Links}
 
 abbrev pub Leads : Recipe → (next : List ℕ) → Type 0
 Leads r next = (i : ℕ) → is_statement (at r i) ≡ true → get_or next i 0 ≡ next_of (at r i)
 
-pub record Linked (r : Recipe) (next starts : List ℕ) : Type 0 where
-  pub next_is : Leads r next
-  pub start_is : (p : ℕ) → p ≤ 255 → p < length r → get_or starts p 0 ≡ start r p
+pub record Linked (r : Recipe) (l : Links) : Type 0 where
+  pub next_is : Leads r l.next
+  pub start_is : (p : ℕ) → p ≤ 255 → p < length r → get_or l.starts p 0 ≡ start r p

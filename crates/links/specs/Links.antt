@@ -52,7 +52,3 @@ first_of (s ▸ b) = s
 -- the place after the first statement of a row at index at: the next statement, or follow, if there is none
 abbrev pub place_after : List ℕ → (at follow : ℕ) → ℕ
 place_after p at follow = cond (eqb (length p) (8 + 8 * span_of p)) follow (at + 1 + span_of p)
-
--- the place after the body of an if (kind 4), which is what follows the if, or of a while, which is the while again
-abbrev pub body_follow : (kind own then : ℕ) → ℕ
-body_follow kind own then = cond (eqb kind 4) then own

@@ -2,12 +2,20 @@
 
 #![tactic(auto)]
 
-ghost use Rattle.std.specs.Prelude.{◌≡◌, ◌+◌, ◌≤◌, ◌<◌, length, set};
-ghost use Rattle.rules.specs.Table.{span_of, fine, check, body_of, recipe_of};
+ghost use Rattle.std.specs.Prelude.{◌≡◌, ◌+◌, ◌≤◌, ◌<◌, length, set, replicate};
+ghost use Rattle.rules.specs.Table.{span_of, body_of, recipe_of};
 ghost use Rattle.rules.specs.Places.{nowhere, points_s, points_b, points_r};
-ghost use Rattle.links.specs.Links.{linked, started, BodySpelt, first_of, place_after, body_follow};
+ghost use Rattle.links.specs.Links.{linked, started, BodySpelt, first_of, place_after};
 
-use table::record::{beyond, enclosed, span_of};
+use table::check::Accepted;
+use table::record::{Kind, beyond, enclosed, kind_at, span_of};
+
+// The place after each statement, by the statement's index, and the first place of each of the procedures 0 to 255.
+#[derive(Clone, Copy)]
+pub struct Links {
+    pub next: [u16; 4096],
+    pub starts: [u16; 256],
+}
 
 // An index as a place.
 fn place(i: usize) -> u16
@@ -30,16 +38,6 @@ fn place_after(part: &[u8], at: usize, follow: u16) -> u16
     behind
 }
 
-// The place after the body of an if (kind 4), which is what follows the if, or of a while, which is the while again.
-fn body_follow(kind: u8, own: u16, then: u16) -> u16
-    ensures { result ≡ body_follow kind own then }
-{
-    if kind == 4 {
-        return then;
-    }
-    own
-}
-
 // Links the first statement of a row and all that it encloses; `then` is the place after it. `left` bounds how deep the calls go.
 #[cycle(link_body_link_statement)]
 fn link_statement(part: &[u8], at: usize, then: u16, left: usize, next: &mut [u16; 4096])
@@ -47,17 +45,14 @@ fn link_statement(part: &[u8], at: usize, then: u16, left: usize, next: &mut [u1
     ensures { next.new ≡ linked (points_s (first_of (body_of part.now)) at then) at next.old }
 {
     next[at] = then;
-    let kind = part[0];
-    if kind < 4 {
-        return;
-    }
-    if 5 < kind {
-        return;
-    }
+    // What follows the body of an if is what follows the if, of a while the while again.
+    let follow = match kind_at(part, 0) {
+        Some(Kind::If) => then,
+        Some(Kind::While) => place(at),
+        _ => return,
+    };
     let test = enclosed(part);
-    let first = at + 2 + span_of(test);
-    let follow = body_follow(kind, place(at), then);
-    link_body(beyond(test), first, follow, left - 1, next);
+    link_body(beyond(test), at + 2 + span_of(test), follow, left - 1, next);
 }
 
 // Links a row of statements; `follow` is the place after the last.
@@ -68,6 +63,7 @@ fn link_body(part: &[u8], at: usize, follow: u16, left: usize, next: &mut [u16; 
 {
     let mut rest = part;
     let mut here = at;
+    // kept: the step to the next record is what this one encloses, which no range or library iterator says.
     while 0 < rest.len() {
         link_statement(rest, here, place_after(rest, here, follow), left, next);
         here = here + 1 + span_of(rest);
@@ -81,27 +77,40 @@ fn link_body(part: &[u8], at: usize, follow: u16, left: usize, next: &mut [u16; 
 fn put_start(starts: &mut [u16], number: usize, first: u16)
     ensures { starts.new ≡ set starts.old number first }
 {
+    // kept: of a slice's `get_mut` the library says the length alone, and nothing of the elements.
     if number < starts.len() {
         starts[number] = first;
     }
 }
 
-// For an accepted table: the place after each statement, and the first place of each of the procedures 0 to 255.
-pub fn links(table: &[u8], next: &mut [u16; 4096], starts: &mut [u16; 256])
-    requires { check table.now ≡ fine }
-    ensures next_after { next.new ≡ linked (points_r (recipe_of table.now) 0 nowhere) 0 next.old }
-    ensures starts_after { starts.new ≡ started (recipe_of table.now) starts.old }
-{
-    let mut rest = table;
-    let mut at = 0;
-    let mut number = 0;
-    while 0 < rest.len() {
-        let end = at + 1 + span_of(rest);
-        link_body(enclosed(rest), at + 1, place(end), 16, next);
-        put_start(starts, number, place(at + 1));
-        let more = beyond(rest);
-        rest = more;
-        at = end;
-        number += 1;
+impl Links {
+    // Nothing linked yet.
+    pub fn none() -> Links
+        ensures { result ≡ record { next = replicate 4096 0; starts = replicate 256 0 } }
+    {
+        Links {
+            next: [0; 4096],
+            starts: [0; 256],
+        }
+    }
+
+    // Links an accepted table.
+    pub fn set(&mut self, table: Accepted)
+        ensures next_after { self.new.next ≡ linked (points_r (recipe_of table.entry.bytes.now) 0 nowhere) 0 self.old.next }
+        ensures starts_after { self.new.starts ≡ started (recipe_of table.entry.bytes.now) self.old.starts }
+    {
+        let mut rest = table.bytes;
+        let mut at = 0;
+        let mut number = 0;
+        // kept: as in `link_body`, the step is what the record encloses.
+        while 0 < rest.len() {
+            let end = at + 1 + span_of(rest);
+            link_body(enclosed(rest), at + 1, place(end), 16, &mut self.next);
+            put_start(&mut self.starts, number, place(at + 1));
+            let more = beyond(rest);
+            rest = more;
+            at = end;
+            number += 1;
+        }
     }
 }

@@ -48,6 +48,3 @@ value-word w n h =
 module _ {p : List ℕ} (s : Part p) (h : kind_of p ≡ 6) where
   pub procedure-is : word p 4 ≡ nat_abs (value_of p)
   procedure-is = value-word (word p 4) (nat_abs (value_of p)) (s.stands.spawned h).natural
-
-  pub procedure-small : word p 4 ≤ 255
-  procedure-small = rw procedure-is (s.stands.spawned h).small

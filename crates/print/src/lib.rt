@@ -14,14 +14,15 @@ use fields::{half_at, word_at};
 use runner::{Answer, run, start};
 use text::{put_ending, put_kind, put_number, put_value, put_word};
 
+// A line of a log record. (kept: a lent buffer and the index in it, as in `text`.)
 fn put_line(b: &mut [u8], at: usize, kind: u8, task: u16, valve: u8, value: u32) -> usize
     requires { at + 30 ≤ length b.old }
     ensures puts { Puts b.old at (line kind task valve (signed value)) result b.new }
     ensures upper_bound { result ≤ at + 30 }
 {
     let k = put_kind(b, at, kind);
-    let t = put_number(b, k, task as u32);
-    let v = put_number(b, t, valve as u32);
+    let t = put_number(b, k, u32::from(task));
+    let v = put_number(b, t, u32::from(valve));
     let z = put_value(b, v, value);
     put_word(b, z, b"\n")
 }
@@ -52,10 +53,8 @@ fn put_lines(b: &mut [u8], log: &[u8], records: usize) -> usize
     ensures upper_bound { result ≤ 30 * records }
 {
     let mut at: usize = 0;
-    let mut i: usize = 0;
-    while i < records {
+    for i in 0..records {
         at = put_record(b, at, log, 8 * i);
-        i += 1;
     }
     at
 }
@@ -79,14 +78,11 @@ fn put_refused(b: &mut [u8], at: usize, number: u32, place: u32) -> usize
     put_word(b, i, b"\n")
 }
 
-// Whether a run ended with this number, and was not refused.
+// Whether a run ended with this number, and was not refused. (kept: the numbers of the answer that C callers get.)
 fn is_ending(number: u32) -> bool
     ensures { result ≡ ends number }
 {
-    if number <= 5 {
-        return true;
-    }
-    number == 24
+    number <= 5 || number == 24
 }
 
 // A run's text.

@@ -3,7 +3,7 @@
 -- Assumes nothing.
 use Prim.Native.Nat.{ℕ, zero, suc, ◌+◌, ◌≤◌, ◌<◌}
 use mathlib.Core.Path.{◌≡◌, refl, sym, ap, ◌∙◌, subst}
-use mathlib.Core.Bool.{Bool, true, false, not, ◌&&◌, cond, true≢false}
+use mathlib.Core.Bool.{Bool, true, false, not, ◌&&◌, cond}
 use mathlib.Core.List.{List, [], ◌∷◌, ◌++◌}
 use mathlib.Core.Logic.{⊎_elim}
 use native.Mathlib.Nat.{eq-or-lt_of_le}
@@ -11,9 +11,8 @@ use native.Mathlib.Omega.{arith}
 use lib.Dec.{eqb, leb}
 use lib.IntN.{ℤ, pos, negsuc}
 use lib.ListN.{length}
-use lib.Signed.{lt_z}
-use borrow.Author.Tests.{lt-ltb, le-leb, lt-leb, eq-eqb, ne_eqb, ltb-true}
-use Rattle.rules.specs.Fields.{bits}
+use borrow.Author.Tests.{lt-ltb, le-ltb, le-leb, lt-leb, eq-eqb, ne_eqb}
+use Rattle.std.specs.Prelude.{None, Some, nat_lt}
 use Rattle.rules.specs.Recipe.{Recipe}
 use Rattle.rules.specs.State.{Task, tab}
 use Rattle.rules.specs.Scheduler.{count, is_live}
@@ -60,16 +59,21 @@ module _ (x : Recipe) (f : ℕ → Task ℕ) (k : ℕ) where
   pub one-live : (n i : ℕ) → i < n → k ≡ (f i).number → true ≡ is_live (recipes x) (tab n f) k
   one-live n i l e = sym (lt-ltb 0 (count (recipes x) k (tab n f)) (count-one n i l e))
 
--- a value is done if the number n that it is has been issued and is not live
-done_natural : (issued : ℕ) (live : ℕ → Bool) (z : ℤ)
-    → is_done issued live z ≡ (leb 1 (natural z) && leb (natural z) issued && not (live (natural z)))
+pub negative_done : (issued : ℕ) (live : ℕ → Bool) (z : ℤ) → natural z ≡ None → false ≡ is_done issued live z
 unfolding is_done
-done_natural issued live (pos n) = refl
-done_natural issued live (negsuc n) = refl
+negative_done issued live (pos n) h = let z : ◌≡◌ {A = ℕ} 0 1 = cc in absurd (omega arith)
+negative_done issued live (negsuc n) h = refl
 
-module _ (issued : ℕ) (live : ℕ → Bool) (z : ℤ) (n : ℕ) (is-n : n ≡ natural z) where
+-- a value is done if the number n that it is has been issued and is not live
+done_natural : (issued : ℕ) (live : ℕ → Bool) (z : ℤ) (n : ℕ) → natural z ≡ Some n
+    → is_done issued live z ≡ (leb 1 n && leb n issued && not (live n))
+unfolding is_done
+done_natural issued live (pos m) n h = let e : m ≡ n = cc in rw e refl
+done_natural issued live (negsuc m) n h = let z : ◌≡◌ {A = ℕ} 0 1 = cc in absurd (omega arith)
+
+module _ (issued : ℕ) (live : ℕ → Bool) (z : ℤ) (n : ℕ) (is-n : natural z ≡ Some n) where
   done_is : is_done issued live z ≡ (leb 1 n && leb n issued && not (live n))
-  done_is = rw is-n (done_natural issued live z)
+  done_is = done_natural issued live z n is-n
 
   pub none_done : n ≡ 0 → false ≡ is_done issued live z
   none_done h = sym (done_is ∙ rw h)
@@ -120,12 +124,11 @@ module _ {T : Type 0} (go : T → Bool) where
         (λ m. let e = ahead_at n i m h g in ahead_in (tab n f) (f n ∷ []) (omega (arith, length-tab f n)) ∙ e)
         (eq-or-lt_of_le {n = i} {m = n} (omega arith))
 
--- ---- values
+    -- and the first that can go on, by how many stand before it
+    pub first_none : (n : ℕ) → ((j : ℕ) → j < n → go (f j) ≡ false)
+        → None ≡ cond (nat_lt (ahead go (tab n f)) (length (tab n f))) (Some (ahead go (tab n f))) None
+    first_none n h = rw (ahead_all n h, length-tab f n, le-ltb n n (omega arith)) refl
 
-pub natural-low : (z : ℤ) → lt_z z (pos 0) ≡ true → 0 ≡ natural z
-natural-low (pos n) h = absurd (omega (arith, ltb-true n 0 h))
-natural-low (negsuc n) h = refl
-
-pub natural-bits : (z : ℤ) → lt_z z (pos 0) ≡ false → bits z ≡ natural z
-natural-bits (pos n) h = refl
-natural-bits (negsuc n) h = absurd (true≢false h)
+    pub first_at : (n i : ℕ) → i < n → ((j : ℕ) → j < i → go (f j) ≡ false) → go (f i) ≡ true
+        → Some i ≡ cond (nat_lt (ahead go (tab n f)) (length (tab n f))) (Some (ahead go (tab n f))) None
+    first_at n i l h g = rw (ahead_at n i l h g, length-tab f n, lt-ltb i n l) refl

@@ -1,6 +1,6 @@
 -- What stands at a place of an accepted table, by the first byte of its record.
 -- Assumes nothing.
-use Prim.Native.Nat.{ℕ, suc, ◌+◌, ◌*◌, ◌/◌, ◌%◌, ◌≤◌, ◌<◌}
+use Prim.Native.Nat.{ℕ, suc, ◌+◌, ◌*◌, ◌≤◌, ◌<◌}
 use mathlib.Core.Path.{◌≡◌, refl, sym, ap, ap₂, ◌∙◌}
 use mathlib.Core.Bool.{Bool, true, false, ◌&&◌, ◌||◌, cond, true≢false}
 use mathlib.Core.List.{List}
@@ -9,14 +9,12 @@ use native.Mathlib.Decide.{dec_lt, ℕ_discrete}
 use native.Mathlib.Omega.{arith}
 use lib.Dec.{eqb, leb}
 use lib.IntN.{ℤ}
-use mir.Val.{Fits}
-use mir.Syntax.{w8}
 use lib.ListN.{length, get_or, drop, length-drop, get_or-eq_default}
 use lib.Seq.{get_or-drop}
-use borrow.Author.Tests.{ne_eqb, leb-true, eqb-true}
+use borrow.Author.Tests.{eq-eqb, ne_eqb, leb-true, eqb-true}
+use Rattle.std.specs.Prelude.{Option, None, Some}
 use Rattle.rules.specs.Demand.{Bytes}
 use Rattle.rules.specs.Values.{is_true}
-use Rattle.rules.specs.Fields.{signed}
 use Rattle.rules.specs.Recipe.{Expr, Recipe, read, value}
 use Rattle.rules.specs.Table.{kind_of, name_of, span_of, inner, expr_of, records, fine, check, recipe_of}
 use Rattle.rules.specs.Places.{Point, nowhere, stop, skips, assigns, tests, spawns, suspends, awaits, guards, at, is_place}
@@ -24,11 +22,52 @@ use Rattle.rules.specs.Standing.{next_of, point_at, at_place, Opens, StandsAt}
 use Rattle.rules.specs.State.{Task, Store, State}
 use Rattle.rules.specs.Scheduler.{ready, waits_for, at_guard, is_ready, is_live, can_go}
 use Rattle.rules.specs.Steps.{is_done, env_of, go_to, wait_at, past_at, recipes}
-use Rattle.rules.proofs.Verdicts.{and_true, or_left}
+use Rattle.rules.proofs.Verdicts.{and_true}
 use Rattle.rules.proofs.Standing.{choose, kind_at, spells, size, at_is, stands_at, at_end, is-place}
-use Rattle.state.specs.View.{unpacked}
+use Rattle.table.specs.declared.check.Accepted.{Accepted}
+use Rattle.table.specs.declared.record.Kind.{Kind}
+use Rattle.table.specs.declared.record.Kind.TheVariants.{Procedure, Skip, Set, If, While, Spawn, Suspend, Await, Constant, Variable, Binary, Unary, Guard}
+use Rattle.table.specs.Kinds.{kind_named, kind_there}
+use Rattle.table.proofs.Numbered.{number-named}
 use Rattle.links.specs.Links.{is_statement}
-use Rattle.ready.specs.Ready.{ready_in, NotDone, wait_kind}
+use Rattle.ready.specs.Ready.{ready_in, NotDone}
+
+no_wait : {P : Type 0} → false ≡ true → P
+no_wait h = let z : ◌≡◌ {A = ℕ} 0 1 = cc in absurd (omega arith)
+
+-- ---- the kinds at which a task can wait
+
+-- an await and a guard; none stands behind the last record
+abbrev pub may_wait : Option Kind → Bool
+may_wait (Some Await) = true
+may_wait (Some Guard) = true
+may_wait _ = false
+
+await_or_guard : (k : Option Kind) → may_wait k ≡ true → ¬ (k ≡ Some Guard) → k ≡ Some Await
+await_or_guard (Some Await) h g = refl
+await_or_guard (Some Guard) h g = absurd (g refl)
+await_or_guard None h g = no_wait h
+await_or_guard (Some Procedure) h g = no_wait h
+await_or_guard (Some Skip) h g = no_wait h
+await_or_guard (Some Set) h g = no_wait h
+await_or_guard (Some If) h g = no_wait h
+await_or_guard (Some While) h g = no_wait h
+await_or_guard (Some Spawn) h g = no_wait h
+await_or_guard (Some Suspend) h g = no_wait h
+await_or_guard (Some Constant) h g = no_wait h
+await_or_guard (Some Variable) h g = no_wait h
+await_or_guard (Some Binary) h g = no_wait h
+await_or_guard (Some Unary) h g = no_wait h
+
+pub neither : (k : Option Kind) → ¬ (k ≡ Some Await) → ¬ (k ≡ Some Guard) → may_wait k ≡ false
+neither k f g = by (may_wait k) refl
+  where
+    by : (b : Bool) → may_wait k ≡ b → b ≡ false
+    by true e = absurd (f (await_or_guard k e g))
+    by false e = refl
+
+other_named : (n : ℕ) → ¬ (n ≡ 8) → ¬ (n ≡ 13) → may_wait (kind_named n) ≡ false
+other_named n f g = neither (kind_named n) (λ e. f (number-named n Await e)) (λ e. g (number-named n Guard e))
 
 -- ---- awaits and guards among what can stand somewhere
 
@@ -52,9 +91,6 @@ pub record Waitable (x : Point ℕ) : Type 0 where
 pub record Free (x : Point ℕ) : Type 0 where
   pub waits-not : (s : Store) (live : ℕ → Bool) (t : Task ℕ) → wait_at x s live t ≡ ready
   pub stays : (t : Task ℕ) → past_at x t ≡ t
-
-no_wait : {P : Type 0} → false ≡ true → P
-no_wait h = let z : ◌≡◌ {A = ℕ} 0 1 = cc in absurd (omega arith)
 
 waitable : (x : Point ℕ) → is_wait x ≡ true → Waitable x
 waitable nowhere h = no_wait h
@@ -131,15 +167,13 @@ same-wait (suspends k) s live n m p q z = refl
 same-wait (awaits v k) s live n m p q z = refl
 same-wait (guards e k) s live n m p q z = refl
 
--- so tasks whose packed numbers agree but for the task number are ready or wait together
-pub same_go : (r : Recipe) (c : State) (x y : ℕ) → x / 65536 ≡ y / 65536 → can_go (recipes r) c (unpacked x) ≡ can_go (recipes r) c (unpacked y)
-same_go r c x y e =
-    let high : (x : ℕ) → x / 4294967296 ≡ x / 65536 / 65536 = λ x. omega arith in
+-- so tasks that stand alike are ready or wait together
+pub same_go : (r : Recipe) (c : State) (t u : Task ℕ) → t.place ≡ u.place → t.parameter ≡ u.parameter → can_go (recipes r) c t ≡ can_go (recipes r) c u
+same_go r c t u e g =
     let live = is_live (recipes r) c.queue in
     ap is_ready
-    (same-wait (at r (x / 65536 % 65536)) c.store live (x % 65536) (y % 65536) (x / 65536 % 65536) (y / 65536 % 65536) (signed (x / 4294967296))
-    ∙ ap₂ (λ (p : ℕ) (z : ℤ). wait_at (at r p) c.store live (record { number = y % 65536; place = y / 65536 % 65536; parameter = z }))
-    (ap (λ (w : ℕ). w % 65536) e) (ap signed (high x ∙ ap (λ (w : ℕ). w / 65536) e ∙ sym (high y))))
+    (same-wait (at r t.place) c.store live t.number u.number t.place u.place t.parameter
+    ∙ ap₂ (λ (p : ℕ) (z : ℤ). wait_at (at r p) c.store live (record { number = u.number; place = u.place; parameter = z })) e g)
 
 -- what a task waits for is not done
 pub waits_not_done : (table : List ℕ) (c : State) (t : Task ℕ) (z : ℤ) → ready_in table c t ≡ waits_for z → NotDone table c z
@@ -172,9 +206,8 @@ pub record Place (t : List ℕ) (i : ℕ) : Type 0 where
   pub accepted : check t ≡ fine
   pub placed : is_place (recipe_of t) i ≡ true
 
--- from the range of each byte, as the code knows it
-pub place_of : (t : List ℕ) (i : ℕ) → ((k : ℕ) → Fits w8 (get_or t k 0)) → check t ≡ fine → is_place (recipe_of t) i ≡ true → Place t i
-place_of t i b a p = record { bytes = λ k. (b k).fits; accepted = a; placed = p }
+pub place_of : (a : Accepted) (i : ℕ) → is_place (recipe_of a.bytes.now) i ≡ true → Place a.bytes.now i
+place_of a i p = record { bytes = a.in_bytes; accepted = a.fine; placed = p }
 
 module _ {t : List ℕ} {i : ℕ} (p : Place t i) where
   pub within : (1 ≤ i) × (i ≤ records t) × ((eqb i (records t) || at_place (kind_of (drop (8 * i) t))) ≡ true)
@@ -212,34 +245,35 @@ module _ {t : List ℕ} {i : ℕ} (p : Place t i) where
         → at (recipe_of t) i ≡ guards (expr_of (inner (drop (8 * i) t))) (next_of (at (recipe_of t) i))
     guard-there e = point_there ∙ guard-kind (drop (8 * i) t) i (next_of (at (recipe_of t) i)) e
 
-    wait-kind : is_wait (at (recipe_of t) i) ≡ wait_kind (kind_of (drop (8 * i) t))
+    wait-kind : is_wait (at (recipe_of t) i) ≡ may_wait (kind_named (kind_of (drop (8 * i) t)))
     wait-kind =
         let k = kind_of (drop (8 * i) t) in
         dite (ℕ_discrete k 8)
-        (λ e. ap is_wait (await-there e) ∙ sym (ap wait_kind e))
+        (λ e. ap is_wait (await-there e) ∙ sym (ap (λ (n : ℕ). may_wait (kind_named n)) e))
         (λ f.
         dite (ℕ_discrete k 13)
-        (λ e. ap is_wait (guard-there e) ∙ sym (ap wait_kind e))
-        (λ g. ap is_wait point_there ∙ other-kind _ i _ f g ∙ sym (rw (ne_eqb k 8 f, ne_eqb k 13 g) refl)))
+        (λ e. ap is_wait (guard-there e) ∙ sym (ap (λ (n : ℕ). may_wait (kind_named n)) e))
+        (λ g. ap is_wait point_there ∙ other-kind _ i _ f g ∙ sym (other_named k f g)))
 
-  -- a task can wait there, by the byte of the kind; there is none behind the last record
-  wait_is : is_wait (at (recipe_of t) i) ≡ wait_kind (get_or t (8 * i) 0)
+  -- a task can wait there, by the kind; there is none behind the last record
+  wait_is : is_wait (at (recipe_of t) i) ≡ may_wait (kind_there t (8 * i))
   wait_is =
       dite (dec_lt (8 * i) (length t))
-      (λ l. wait-kind l ∙ ap wait_kind (kind_at t (8 * i)))
-      (λ l. ap is_wait (end-there (omega arith)) ∙ sym (ap wait_kind (get_or-eq_default t 0 (omega arith))))
+      (λ l. wait-kind l ∙ ap (λ (n : ℕ). may_wait (kind_named n)) (kind_at t (8 * i)))
+      (λ l. ap is_wait (end-there (omega arith)) ∙ sym (ap (λ (n : ℕ). may_wait (kind_named n)) (get_or-eq_default t 0 (omega arith))))
 
   pub inside-table : {k : ℕ} → get_or t (8 * i) 0 ≡ suc k → 8 * i < length t
   inside-table e = dite (dec_lt (8 * i) (length t)) (λ l. l) (λ l. absurd (omega (arith, e, get_or-eq_default t 0 {n = 8 * i} (omega arith))))
 
   -- the record of an await or of a guard, by the byte of its kind
-  pub record Await : Type 0 where
+  pub record AwaitThere : Type 0 where
     pub inside : 8 * i + 1 < length t
     pub named : get_or t (8 * i + 1) 0 ≤ 64
     pub is : at (recipe_of t) i ≡ awaits (get_or t (8 * i + 1) 0) (next_of (at (recipe_of t) i))
 
-  pub await-read : get_or t (8 * i) 0 ≡ 8 → Await
-  await-read e =
+  pub await-read : kind_there t (8 * i) ≡ Some Await → AwaitThere
+  await-read h =
+      let e = number-named (get_or t (8 * i) 0) Await h in
       let l = inside-table e in
       let n : name_of (drop (8 * i) t) ≡ get_or t (8 * i + 1) 0 = get_or-drop (8 * i) t 1 0 in
       let s = shape_there l in
@@ -249,49 +283,59 @@ module _ {t : List ℕ} {i : ℕ} (p : Place t i) where
         is = rw n at (await-there l (kind_at t (8 * i) ∙ e));
       }
 
-  pub record Guard : Type 0 where
+  pub record GuardThere : Type 0 where
     pub inside : 8 * i < length t
     pub whole : 8 + 8 * span_of (drop (8 * i) t) ≤ length (drop (8 * i) t)
     pub opens : Opens (drop (8 * i) t)
     pub is : at (recipe_of t) i ≡ guards (expr_of (inner (drop (8 * i) t))) (next_of (at (recipe_of t) i))
 
-  pub guard-read : get_or t (8 * i) 0 ≡ 13 → Guard
-  guard-read e =
+  pub guard-read : kind_there t (8 * i) ≡ Some Guard → GuardThere
+  guard-read h =
+      let e = number-named (get_or t (8 * i) 0) Guard h in
       let l = inside-table e in
       let k = kind_at t (8 * i) ∙ e in
       let s = shape_there l in
       record { inside = l; whole = s.whole; opens = s.guarded k; is = guard-there l k }
 
+  -- the same, by the first byte of the record
+  pub guard-is : eqb (kind_of (drop (8 * i) t)) 13 ≡ true → kind_there t (8 * i) ≡ Some Guard
+  guard-is h = ap kind_named (sym (kind_at t (8 * i)) ∙ eqb-true (kind_of (drop (8 * i) t)) 13 h)
+
+  pub no-guard : eqb (kind_of (drop (8 * i) t)) 13 ≡ false → ¬ (kind_there t (8 * i) ≡ Some Guard)
+  no-guard h g =
+      let e = kind_at t (8 * i) ∙ number-named (get_or t (8 * i) 0) Guard g in
+      absurd (true≢false (sym (eq-eqb (kind_of (drop (8 * i) t)) 13 e) ∙ h))
+
   -- either, and elsewhere
-  pub waitable_there : wait_kind (get_or t (8 * i) 0) ≡ true → Waitable (at (recipe_of t) i)
+  pub waitable_there : may_wait (kind_there t (8 * i)) ≡ true → Waitable (at (recipe_of t) i)
   waitable_there h = waitable (at (recipe_of t) i) (wait_is ∙ h)
 
-  pub free-there : wait_kind (get_or t (8 * i) 0) ≡ false → Free (at (recipe_of t) i)
+  pub free-there : may_wait (kind_there t (8 * i)) ≡ false → Free (at (recipe_of t) i)
   free-there h = free (at (recipe_of t) i) (wait_is ∙ h)
 
-  pub waitable_inside : wait_kind (get_or t (8 * i) 0) ≡ true → 8 * i < length t
-  waitable_inside h = dite (dec_lt (8 * i) (length t)) (λ l. l) (λ l. no_wait (sym (ap wait_kind (get_or-eq_default t 0 {n = 8 * i} (omega arith))) ∙ h))
+  pub waitable_inside : may_wait (kind_there t (8 * i)) ≡ true → 8 * i < length t
+  waitable_inside h = dite (dec_lt (8 * i) (length t)) (λ l. l) (λ l. no_wait (sym (ap (λ (n : ℕ). may_wait (kind_named n)) (get_or-eq_default t 0 {n = 8 * i} (omega arith))) ∙ h))
 
   -- a task that waits stands at an await, and waits for its value, or at a guard
   module _ (s : Store) (live : ℕ → Bool) (u : Task ℕ) (h : is_ready (wait_at (at (recipe_of t) i) s live u) ≡ false) where
     not-ready : {P : Type 0} → wait_at (at (recipe_of t) i) s live u ≡ ready → P
     not-ready e = absurd (true≢false (sym (ap is_ready e) ∙ h))
 
-    pub waits_there : wait_kind (get_or t (8 * i) 0) ≡ true
-    waits_there = by (wait_kind (get_or t (8 * i) 0)) refl
+    pub waits_there : may_wait (kind_there t (8 * i)) ≡ true
+    waits_there = by (may_wait (kind_there t (8 * i))) refl
       where
-        by : (b : Bool) → wait_kind (get_or t (8 * i) 0) ≡ b → b ≡ true
+        by : (b : Bool) → may_wait (kind_there t (8 * i)) ≡ b → b ≡ true
         by true e = refl
         by false e = not-ready ((free-there e).waits-not s live u)
 
-    pub waits-value : (a : Await) → wait_at (at (recipe_of t) i) s live u ≡ waits_for (read (env_of s u) (get_or t (8 * i + 1) 0))
+    pub waits-value : (a : AwaitThere) → wait_at (at (recipe_of t) i) s live u ≡ waits_for (read (env_of s u) (get_or t (8 * i + 1) 0))
     waits-value a = by (is_done s.issued live (read (env_of s u) (get_or t (8 * i + 1) 0))) refl
       where
         by : (b : Bool) → is_done s.issued live (read (env_of s u) (get_or t (8 * i + 1) 0)) ≡ b → wait_at (at (recipe_of t) i) s live u ≡ waits_for (read (env_of s u) (get_or t (8 * i + 1) 0))
         by true e = not-ready (wait_over _ s live u _ _ a.is e)
         by false e = wait-on _ s live u _ _ a.is e
 
-    pub waits-guard : (a : Guard) → wait_at (at (recipe_of t) i) s live u ≡ at_guard
+    pub waits-guard : (a : GuardThere) → wait_at (at (recipe_of t) i) s live u ≡ at_guard
     waits-guard a = by (is_true (value (env_of s u) (expr_of (inner (drop (8 * i) t))))) refl
       where
         by : (b : Bool) → is_true (value (env_of s u) (expr_of (inner (drop (8 * i) t)))) ≡ b → wait_at (at (recipe_of t) i) s live u ≡ at_guard
@@ -299,5 +343,5 @@ module _ {t : List ℕ} {i : ℕ} (p : Place t i) where
         by false e = guard-untrue _ s live u _ _ a.is e
 
     -- where it is no guard, it is an await
-    pub waits-await : ¬ (get_or t (8 * i) 0 ≡ 13) → Await
-    waits-await n = await-read (eqb-true (get_or t (8 * i) 0) 8 (or_left (eqb (get_or t (8 * i) 0) 8) (eqb (get_or t (8 * i) 0) 13) waits_there (ne_eqb _ 13 n)))
+    pub waits-await : ¬ (kind_there t (8 * i) ≡ Some Guard) → AwaitThere
+    waits-await n = await-read (await_or_guard (kind_there t (8 * i)) waits_there n)

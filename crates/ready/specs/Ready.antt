@@ -1,15 +1,17 @@
 -- Which queued tasks are ready, as the code says it.
 -- Assumes nothing.
-use Rattle.std.specs.Prelude.{ℕ, suc, ◌≤◌, ◌<◌, ◌≡◌, Bool, true, false, ◌||◌, cond, List, [], ◌∷◌, eqb, ℤ, pos, negsuc}
+use Rattle.std.specs.Prelude.{ℕ, suc, ◌≡◌, Bool, true, false, Option, None, Some, nat_lt, length, cond, List, [], ◌∷◌, ℤ, pos, negsuc}
 use Rattle.std.proofs.Math.Option.{none}
 use Rattle.rules.specs.Recipe.{Recipe}
-use Rattle.rules.specs.Table.{fine, check, recipe_of}
+use Rattle.rules.specs.Table.{recipe_of}
 use Rattle.rules.specs.Places.{is_place}
 use Rattle.rules.specs.State.{Task, State}
 use Rattle.rules.specs.Scheduler.{Readiness, ready, waits_for, at_guard, is_live, readiness, can_go, is_ready}
 use Rattle.rules.specs.Steps.{is_done, recipes}
 use Rattle.rules.specs.Fairness.{Every}
-use Rattle.state.specs.View.{task_of, entry, queue_of}
+use Rattle.state.specs.View.{task_of, entry, queue_of, store_of}
+use Rattle.state.specs.declared.State as S
+use Rattle.state.specs.declared.Queue.{Queue}
 use Rattle.ready.specs.declared.Wait.{Wait}
 use Rattle.ready.specs.declared.Queued.{Queued}
 use Rattle.ready.specs.declared.Wait.TheVariants.{Ready, Waits, AtGuard}
@@ -20,10 +22,9 @@ readiness_of Ready = ready
 readiness_of (Waits z) = waits_for z
 readiness_of AtGuard = at_guard
 
--- the state with no task active, as the code has it: the queue is a ring of packed tasks
-abbrev pub idle : (issued : ℕ) → (variables : List ℤ) → (queue : List ℕ) → (front queued : ℕ) → State
-idle issued variables queue front queued =
-    record { store = record { issued = issued; variables = variables }; active = none; queue = queue_of queue front queued }
+-- the state with no task active, as the code has it
+abbrev pub idle : S.State → State
+idle s = record { store = store_of s; active = none; queue = queue_of s.queue }
 
 -- a task's readiness in such a state, by the table of the recipe
 abbrev pub ready_in : (table : List ℕ) → State → Task ℕ → Readiness
@@ -41,19 +42,19 @@ ahead go (t ∷ ts) = cond (go t) 0 (suc (ahead go ts))
 abbrev pub ahead_in : (table : List ℕ) → State → ℕ
 ahead_in table c = ahead (can_go (recipes (recipe_of table)) c) c.queue
 
--- the number that a value is, or 0, which is none
-abbrev pub natural : ℤ → ℕ
-natural (pos n) = n
-natural (negsuc n) = 0
+-- the first task that can go on, by how many stand before it; none, if none can
+abbrev pub first_in : (table : List ℕ) → State → Option ℕ
+first_in table c = cond (nat_lt (ahead_in table c) (length c.queue)) (Some (ahead_in table c)) None
 
--- the kinds at which a task can wait: an await and a guard
-abbrev pub wait_kind : (kind : ℕ) → Bool
-wait_kind k = eqb k 8 || eqb k 13
+-- the number that a value is, if it is one
+abbrev pub natural : ℤ → Option ℕ
+natural (pos n) = Some n
+natural (negsuc n) = None
 
 -- what is said of the queued task i from the front
-pub record Describes (table : List ℕ) (issued : ℕ) (variables : List ℤ) (queue : List ℕ) (front queued i : ℕ) (x : Queued) : Type 0 where
-  pub task_is : task_of x.task ≡ entry queue front i
-  pub wait_is : readiness_of x.wait ≡ ready_in table (idle issued variables queue front queued) (entry queue front i)
+pub record Describes (table : List ℕ) (s : S.State) (i : ℕ) (x : Queued) : Type 0 where
+  pub task_is : task_of x.task ≡ entry s.queue i
+  pub wait_is : readiness_of x.wait ≡ ready_in table (idle s) (entry s.queue i)
 
 -- a task stands at a place of the recipe
 abbrev pub Placed : Recipe → Task ℕ → Type 0
@@ -64,9 +65,6 @@ pub record Held (table : List ℕ) (t : Task ℕ) : Type 0 where
   pub state : State
   pub waits : is_ready (ready_in table state t) ≡ false
 
--- the table is accepted, the queue is within its ring, and every queued task stands at a place
-pub record Waiting (table queue : List ℕ) (front queued : ℕ) : Type 0 where
-  pub accepted : check table ≡ fine
-  pub front_fits : front < 32
-  pub few : queued ≤ 32
-  pub placed : Every (Placed (recipe_of table)) (queue_of queue front queued)
+-- every queued task stands at a place of the table's recipe
+abbrev pub Waiting : (table : List ℕ) → Queue → Type 0
+Waiting table q = Every (Placed (recipe_of table)) (queue_of q)

@@ -1,21 +1,24 @@
-// Which queued tasks are ready. The queue is a ring of packed tasks: `queued` of them, the front at the index `front`.
+// Which queued tasks are ready.
 
 #![tactic(auto)]
 
-ghost use Rattle.std.specs.Prelude.{◌≡◌, true, false, ℕ, ◌*◌, ◌/◌, ◌<◌, ◌≤◌, get_or};
+ghost use Rattle.std.specs.Prelude.{◌≡◌, true, false, ℕ, ◌*◌, ◌<◌, IfSome};
 ghost use Rattle.rules.specs.Recipe.{Recipe};
-ghost use Rattle.rules.specs.Table.{fine, check, recipe_of};
+ghost use Rattle.rules.specs.Table.{recipe_of};
+ghost use Rattle.table.specs.Kinds.{kind_there};
 ghost use Rattle.rules.specs.Places.{at, is_place};
 ghost use Rattle.rules.specs.State as R;
 ghost use Rattle.rules.specs.Scheduler.{is_live, is_ready, can_go};
 ghost use Rattle.rules.specs.Steps.{is_done, recipes, go_to, past_at};
 ghost use Rattle.state.specs.View.{task_of, entry, queue_of};
-ghost use Rattle.ready.specs.Ready.{readiness_of, idle, ready_in, ahead_in, natural, wait_kind, Describes, NotDone, Placed, Held, Waiting};
+ghost use Rattle.ready.specs.Ready.{readiness_of, idle, ready_in, first_in, natural, Describes, NotDone, Placed, Held, Waiting};
 ghost use Rattle.links.specs.Linked.{Leads};
 
-use expr::{Evaluated, eval, variable};
-use state::{Task, unpack};
-use table::record::{enclosed, from};
+use expr::{Env, eval};
+use links::Links;
+use state::{State, Task};
+use table::check::Accepted;
+use table::record::{Kind, enclosed, from, is, kind_at};
 
 #[derive(Clone, Copy)]
 pub enum Wait {
@@ -32,226 +35,136 @@ pub struct Queued {
 }
 
 // Whether a queued task has this number.
-fn is_live(queue: &[u64; 32], front: usize, queued: usize, number: u16) -> bool
-    requires { (front < 32) × (queued ≤ 32) }
-    ensures { (x : Recipe) → result ≡ is_live (recipes x) (queue_of queue.now front queued) number }
+fn is_live(s: &State, number: u16) -> bool
+    ensures { (x : Recipe) → result ≡ is_live (recipes x) (queue_of s.now.queue) number }
 {
-    let mut i: usize = 0;
-    while i < queued {
-        let at = (front + i) % 32;
-        if queue[at] % 65536 == number as u64 {
+    for i in 0..s.queue.len {
+        if s.queue.task(i).number == number {
             return true;
         }
-        i += 1;
     }
     false
 }
 
-// The number that a value is, or 0, which is none.
-pub fn natural(v: i32) -> u32
+// The number that a value is, if it is one.
+pub fn natural(v: i32) -> Option<u32>
     ensures { result ≡ natural v }
 {
-    if v < 0 {
-        return 0;
-    }
-    v as u32
+    u32::try_from(v).ok()
 }
 
 // Whether a value is the number of a task that is over.
-fn is_done(queue: &[u64; 32], front: usize, queued: usize, issued: u16, v: i32) -> bool
-    requires { (front < 32) × (queued ≤ 32) }
-    ensures { (x : Recipe) → result ≡ is_done issued (is_live (recipes x) (queue_of queue.now front queued)) v }
+fn is_done(s: &State, v: i32) -> bool
+    ensures { (x : Recipe) → result ≡ is_done s.now.issued (is_live (recipes x) (queue_of s.now.queue)) v }
 {
-    let number = natural(v);
-    if number == 0 {
+    let Some(number) = natural(v) else {
+        return false;
+    };
+    if number == 0 || u32::from(s.issued) < number {
         return false;
     }
-    if (issued as u32) < number {
-        return false;
-    }
-    let live = is_live(queue, front, queued, number as u16);
-    !live
-}
-
-// The kind of the record that starts at `off`; 0, which is none, behind the last.
-fn kind_at(table: &[u8], off: usize) -> u8
-    ensures { result ≡ get_or table.now off 0 }
-{
-    if table.len() <= off {
-        return 0;
-    }
-    table[off]
-}
-
-// Whether a task can wait at a record of this kind: an await or a guard.
-fn can_wait(kind: u8) -> bool
-    ensures { result ≡ wait_kind kind }
-{
-    if kind == 8 {
-        return true;
-    }
-    kind == 13
+    !is_live(s, number as u16)
 }
 
 // Whether a task at a guard is ready: whether its expression is true now, with the task's own parameter. Without a value it is untrue.
-fn guarded(table: &[u8], t: Task, variables: &[i32; 64]) -> Wait
-    requires { (check table.now ≡ fine) × Placed (recipe_of table.now) (task_of t) × (get_or table.now (8 * t.place) 0 ≡ 13) }
-    ensures { (c : R.State) → c.store.variables ≡ variables.now → readiness_of result ≡ ready_in table.now c (task_of t) }
+fn guarded(table: Accepted, t: Task, variables: &[i32; 64]) -> Wait
+    requires { Placed (recipe_of table.bytes.now) (task_of t) × (kind_there table.bytes.now (8 * t.place) ≡ Some Kind.Guard) }
+    ensures { (c : R.State) → c.store.variables ≡ variables.now → readiness_of result ≡ ready_in table.entry.bytes.now c (task_of t) }
 {
-    let part = from(table, 8 * (t.place as usize));
-    let Evaluated::Value(v) = eval(enclosed(part), variables, t.parameter) else {
-        return Wait::AtGuard;
+    let part = from(table.bytes, 8 * usize::from(t.place));
+    let env = Env {
+        variables,
+        parameter: t.parameter,
     };
-    if v == 0 {
-        return Wait::AtGuard;
+    match eval(enclosed(part), env) {
+        Some(v) if v != 0 => Wait::Ready,
+        _ => Wait::AtGuard,
     }
-    Wait::Ready
 }
 
 // Whether a task is ready, or what it waits for. Of the number `known` it is known that it is not done: as a rule, tasks that wait one
 // behind another wait for the same.
-fn wait_of(
-    table: &[u8],
-    t: Task,
-    queue: &[u64; 32],
-    front: usize,
-    queued: usize,
-    issued: u16,
-    variables: &[i32; 64],
-    known: i32,
-) -> Wait
-    requires { (check table.now ≡ fine) × Placed (recipe_of table.now) (task_of t) × (front < 32) × (queued ≤ 32) × NotDone table.now (idle issued variables.now queue.now front queued) known }
-    ensures { readiness_of result ≡ ready_in table.now (idle issued variables.now queue.now front queued) (task_of t) }
+fn wait_of(table: Accepted, s: &State, t: Task, known: Option<i32>) -> Wait
+    requires { Placed (recipe_of table.bytes.now) (task_of t) × IfSome known (NotDone table.bytes.now (idle s.now)) }
+    ensures { readiness_of result ≡ ready_in table.entry.bytes.now (idle s.now) (task_of t) }
 {
-    let off = 8 * (t.place as usize);
-    let kind = kind_at(table, off);
-    if kind == 8 {
-        let v = variable(table[off + 1], variables, t.parameter);
-        if v == known {
-            return Wait::Waits(v);
+    let off = 8 * usize::from(t.place);
+    match kind_at(table.bytes, off) {
+        Some(Kind::Await) => {
+            let env = Env {
+                variables: &s.variables,
+                parameter: t.parameter,
+            };
+            let v = env.variable(table.bytes[off + 1]);
+            if Some(v) != known && is_done(s, v) {
+                return Wait::Ready;
+            }
+            Wait::Waits(v)
         }
-        if is_done(queue, front, queued, issued, v) {
-            return Wait::Ready;
-        }
-        return Wait::Waits(v);
-    }
-    if kind == 13 {
-        return guarded(table, t, variables);
-    }
-    Wait::Ready
-}
-
-// The queued task i from the front; the number `known` is not done.
-fn queued_at(
-    table: &[u8],
-    queue: &[u64; 32],
-    front: usize,
-    queued: usize,
-    issued: u16,
-    variables: &[i32; 64],
-    i: usize,
-    known: i32,
-) -> Queued
-    requires { Waiting table.now queue.now front queued × (i < queued) × NotDone table.now (idle issued variables.now queue.now front queued) known }
-    ensures { Describes table.now issued variables.now queue.now front queued i result }
-{
-    let at = (front + i) % 32;
-    let task = unpack(queue[at]);
-    let wait = wait_of(table, task, queue, front, queued, issued, variables, known);
-    Queued {
-        task: task,
-        wait: wait,
+        Some(Kind::Guard) => guarded(table, t, &s.variables),
+        _ => Wait::Ready,
     }
 }
 
 // What a task waits for, of which it is known that it waits.
-fn held_by(table: &[u8], t: Task, variables: &[i32; 64]) -> Wait
-    requires { (check table.now ≡ fine) × Placed (recipe_of table.now) (task_of t) × Held table.now (task_of t) }
-    ensures { (c : R.State) → c.store.variables ≡ variables.now → is_ready (ready_in table.now c (task_of t)) ≡ false → readiness_of result ≡ ready_in table.now c (task_of t) }
+fn held_by(table: Accepted, t: Task, variables: &[i32; 64]) -> Wait
+    requires { Placed (recipe_of table.bytes.now) (task_of t) × Held table.bytes.now (task_of t) }
+    ensures { (c : R.State) → c.store.variables ≡ variables.now → is_ready (ready_in table.entry.bytes.now c (task_of t)) ≡ false → readiness_of result ≡ ready_in table.entry.bytes.now c (task_of t) }
 {
-    let off = 8 * (t.place as usize);
-    if table[off] == 13 {
+    let record = from(table.bytes, 8 * usize::from(t.place));
+    if is(record, Kind::Guard) {
         return Wait::AtGuard;
     }
-    Wait::Waits(variable(table[off + 1], variables, t.parameter))
+    let env = Env {
+        variables,
+        parameter: t.parameter,
+    };
+    Wait::Waits(env.variable(record[1]))
 }
 
 // The queued task i from the front, of which it is known that it waits: who is done or whether its guard is true is not looked for again.
-pub fn waiting_at(
-    table: &[u8],
-    queue: &[u64; 32],
-    front: usize,
-    queued: usize,
-    issued: u16,
-    variables: &[i32; 64],
-    i: usize,
-) -> Queued
-    requires { Waiting table.now queue.now front queued × (i < queued) × (can_go (recipes (recipe_of table.now)) (idle issued variables.now queue.now front queued) (entry queue.now front i) ≡ false) }
-    ensures { Describes table.now issued variables.now queue.now front queued i result }
+pub fn waiting_at(table: Accepted, s: &State, i: usize) -> Queued
+    requires { Waiting table.bytes.now s.now.queue × (i < s.now.queue.len) × (can_go (recipes (recipe_of table.bytes.now)) (idle s.now) (entry s.now.queue i) ≡ false) }
+    ensures { Describes table.entry.bytes.now s.now i result }
 {
-    let at = (front + i) % 32;
-    let task = unpack(queue[at]);
-    let wait = held_by(table, task, variables);
+    let task = s.queue.task(i);
     Queued {
-        task: task,
-        wait: wait,
+        task,
+        wait: held_by(table, task, &s.variables),
     }
 }
 
-// Where a packed task stands: its place and its parameter, one number.
-fn standing(x: u64) -> u64
-    ensures { (result ≡ x / 65536) × (result < 281474976710656) }
+// How many tasks stand before the first that is ready; none, if none is. Who waits is a matter of place and parameter: a task that has
+// both of the last one that waits is not tested again.
+pub fn first_ready(table: Accepted, s: &State) -> Option<usize>
+    requires { Waiting table.bytes.now s.now.queue }
+    ensures { result ≡ first_in table.entry.bytes.now (idle s.now) }
 {
-    x / 65536
-}
-
-// How many tasks stand before the first that is ready. Who waits is a matter of place and parameter: a task that has both of the last one
-// that waits is not tested again.
-pub fn first_ready(
-    table: &[u8],
-    queue: &[u64; 32],
-    front: usize,
-    queued: usize,
-    issued: u16,
-    variables: &[i32; 64],
-) -> usize
-    requires { Waiting table.now queue.now front queued }
-    ensures { result ≡ ahead_in table.now (idle issued variables.now queue.now front queued) }
-{
-    let mut i: usize = 0;
-    let mut known: i32 = 0; // no task has this number
-    let mut last: u64 = 281474976710656; // more than any place and parameter
-    while i < queued {
-        let at = (front + i) % 32;
-        let standing = standing(queue[at]);
+    let mut known = None; // a number that is not done
+    let mut last = None; // where the last task that waits stands, and its parameter
+    for i in 0..s.queue.len {
+        let task = s.queue.task(i);
+        let standing = Some((task.place, task.parameter));
         if standing != last {
-            let x = queued_at(table, queue, front, queued, issued, variables, i, known);
-            let wait = x.wait;
-            match wait {
-                Wait::Ready => {
-                    return i;
-                }
-                Wait::Waits(v) => {
-                    known = v;
-                }
+            match wait_of(table, s, task, known) {
+                Wait::Ready => return Some(i),
+                Wait::Waits(v) => known = Some(v),
                 Wait::AtGuard => {}
             }
             last = standing;
         }
-        i += 1;
     }
-    queued
+    None
 }
 
 // The place of a task that becomes active: past its await or its guard, if it stood at one.
-pub fn past(table: &[u8], next: &[u16; 4096], place: u16) -> u16
-    requires { (check table.now ≡ fine) × (is_place (recipe_of table.now) place ≡ true) × Leads (recipe_of table.now) next.now }
-    ensures { (t : R.Task ℕ) → t.place ≡ place → past_at (at (recipe_of table.now) place) t ≡ go_to t result }
+pub fn past(table: Accepted, links: &Links, place: u16) -> u16
+    requires { (is_place (recipe_of table.bytes.now) place ≡ true) × Leads (recipe_of table.bytes.now) links.now.next }
+    ensures { (t : R.Task ℕ) → t.place ≡ place → past_at (at (recipe_of table.entry.bytes.now) place) t ≡ go_to t result }
 {
-    let i = place as usize;
-    if can_wait(kind_at(table, 8 * i)) {
-        let follow = next[i];
-        return follow;
+    let i = usize::from(place);
+    match kind_at(table.bytes, 8 * i) {
+        Some(Kind::Await | Kind::Guard) => links.next[i],
+        _ => place,
     }
-    place
 }

@@ -48,5 +48,8 @@ pub extern "C" fn recipe_check_all(recipes: &[u8], lengths: &[u8], outcomes: &mu
     ensures outcomes_after { checked result outcomes.new ≡ check_all_on recipes.now lengths.now outcomes.old }
     ensures batch_says { BatchSays recipes.now lengths.now outcomes.old (checked result outcomes.new) }
 {
-    check_all(recipes, lengths, outcomes)
+    match check_all(recipes, lengths, outcomes) {
+        Ok(()) => 0,
+        Err(no_batch) => no_batch.into(),
+    }
 }

@@ -2,26 +2,9 @@
 
 #![tactic(auto)]
 
-ghost use Rattle.std.specs.Prelude.{◌≤◌, length, IfOk};
-
+use input::read_full;
 use print::print_recipe;
 use std::io;
-use std::io::Read;
-
-// Reads until the buffer is full or the input ends, and tells how many bytes that gave.
-fn read_full(input: &mut impl Read, buf: &mut [u8]) -> io::Result<usize>
-    ensures { IfOk result (λ n. n ≤ length buf.new) }
-{
-    let mut done: usize = 0;
-    while done < buf.len() {
-        let n = input.read(&mut buf[done..])?;
-        if n == 0 {
-            break;
-        }
-        done += n;
-    }
-    Ok(done)
-}
 
 // More than 32,768 bytes fit the table's buffer, so that a table that is too long is seen as such.
 fn main(rt: HostRuntime) -> io::Result<()> {

@@ -3,9 +3,8 @@
 use mathlib.Core.Logic.{◌⊎◌}
 use Prim.Native.Nat.{ℕ, ◌+◌, ◌*◌, ◌/◌, ◌≤◌}
 use mathlib.Core.Path.{◌≡◌, refl, sym, ap, ◌∙◌, subst, subst⁻¹, subst₂}
-use mathlib.Core.Bool.{Bool, true, false}
-use mathlib.Core.Option
-use mathlib.Core.Option.{none, some, some-injective}
+use mathlib.Core.Bool.{true}
+use mathlib.Core.Option.{none, some}
 use mathlib.Core.List.{List, [], ◌∷◌, ◌++◌, map}
 use native.Mathlib.Omega.{arith}
 use lib.Dec.{eqb}
@@ -16,19 +15,21 @@ use Rattle.rules.specs.Places.{is_place}
 use Rattle.rules.specs.State as R
 use Rattle.rules.specs.State.{fresh, head_fits, record_fits, check_records, check_block, read_block, write_block}
 use Rattle.rules.specs.Log.{log_bytes}
-use Rattle.rules.specs.Scheduler.{Rules, novalue, Ending, halted, number_of, Run, end, step, run, ending, last, steps_of, log}
+use Rattle.rules.specs.Scheduler.{Rules, number_of, Run, end, step, run, steps_of, log}
 use Rattle.rules.specs.Steps.{recipes}
-use Rattle.rules.specs.Run.{Outcome, start_on, stands_at, place_of, room_of, refusal, outcome, open_on, run_on}
+use Rattle.rules.specs.Run.{Outcome, start_on, place_of, room_of, refusal, outcome, open_on, run_on}
 use Rattle.rules.specs.Demand.{Bytes, Chained, Continues}
 use Rattle.rules.proofs.Verdicts.{else_fine, cond-fine}
 use Rattle.rules.specs.Answers.{RunAnswers, RunSays, StartAnswers, StartSays}
 use Rattle.rules.proofs.Answers.{run-answers, start-answers}
 use Rattle.rules.proofs.Says.{run-says, start-says}
 use Rattle.rules.proofs.Demand.{chain_meets, continued}
-use Rattle.rules.proofs.Scheduling.Endings.{by_number}
-use Rattle.rules.proofs.NoValue.{bars}
+use Rattle.std.specs.Prelude.{Option, None, Some}
+use Rattle.state.specs.declared.Task.{Task}
 use Rattle.state.specs.declared.State.{State}
-use Rattle.state.specs.View.{task_of, active_of, view}
+use Rattle.state.specs.View.{store_of, active_of, queue_of, view}
+use Rattle.count.specs.declared.Stop.{Stop}
+use Rattle.count.specs.declared.Stop.TheVariants.{Finished, Paused, Stuck, Tasks, Spent, Logfull, NoValue}
 use Rattle.runner.specs.declared.Answer.{Answer}
 use Rattle.runner.specs.declared.Started.{Started}
 use Rattle.runner.specs.declared.drive.Ran.{Ran}
@@ -39,9 +40,9 @@ use Rattle.runner.specs.Calls.{started_of, outcome_of, Called, called, result, m
 -- ---- start, by what is found
 
 module _ (t b : List ℕ) where
-  pub start-refused : (n i : ℕ) → check t ≡ fault n i → record { number = n; place = i; block = b } ≡ start_on t b
+  pub start-refused : (n i : ℕ) → fault n i ≡ check t → record { number = n; place = i; block = b } ≡ start_on t b
   unfolding start_on
-  start-refused n i e = rw e refl
+  start-refused n i e = rw (← e) refl
 
   module _ (e : check t ≡ fine) where
     pub start-short : ¬ (length b ≡ 520) → record { number = 21; place = 0; block = b } ≡ start_on t b
@@ -55,14 +56,14 @@ module _ (t b : List ℕ) where
 -- ---- run, by the verdict on table and block
 
 module _ (t b : List ℕ) (n : ℕ) (l : List ℕ) where
-  pub run-refused : (k i : ℕ) → (check t else check_block (is_place (recipe_of t)) b) ≡ fault k i → refusal k i b l ≡ run_on t b n l
+  pub run-refused : (k i : ℕ) → fault k i ≡ (check t else check_block (is_place (recipe_of t)) b) → refusal k i b l ≡ run_on t b n l
   unfolding run_on open_on
-  run-refused k i e = rw e refl
+  run-refused k i e = rw (← e) refl
 
-  pub run_opened : (check t else check_block (is_place (recipe_of t)) b) ≡ fine
+  pub run_opened : fine ≡ (check t else check_block (is_place (recipe_of t)) b)
       → outcome (recipe_of t) (run (recipes (recipe_of t)) n (room_of l) (read_block b)) l ≡ run_on t b n l
   unfolding run_on open_on
-  run_opened e = rw e refl
+  run_opened e = rw (← e) refl
 
 -- an accepted block has its length and its first record
 pub head_fits_lem : (place : ℕ → _) (b : List ℕ) → check_block place b ≡ fine → (length b ≡ 520) × (head_fits b ≡ true)
@@ -87,32 +88,35 @@ module _ {t : List ℕ} {s : State} {n : ℕ} {l l' : List ℕ} {x : Ran} (d : D
   pub records_fit : x.count.written / 8 ≤ x.count.steps
   records_fit = let b = d.ended.bytes in let k = d.ended.steps_are in omega (arith, log-steps (recipes (recipe_of t)) u)
 
-  -- where a missing value ends it, it has an active task
-  stands : ending (recipes (recipe_of t)) u ≡ halted novalue → stands_at (last (recipes (recipe_of t)) u).active ≡ x.state.current.place
-  stands h =
-      let r = recipe_of t in
-      let c = last (recipes r) u in
-      let b = bars r c.store c.active c.queue novalue ((by_number (recipes r) n (room_of l) (view s) (halted novalue)).0 (ap number_of h)).1 in
-      ap stands_at b.acts ∙ place_is x.state.active b.task (ap (λ (d : R.State). d.active) (sym d.ended.leaves) ∙ b.acts)
-    where
-      place_is : (on : Bool) (a : R.Task ℕ) → active_of on x.state.current ≡ some a → a.place ≡ x.state.current.place
-      place_is true a e = let z : task_of x.state.current ≡ a = cc in ap (λ (y : R.Task ℕ). y.place) (sym z)
-      place_is false a e = absurd (let z : ◌≡◌ {A = ℕ} 0 1 = cc in omega arith)
-
-  pub answers : (number place : ℕ) (block : List ℕ) → some number ≡ Option.map number_of (ending_of x.stop)
-      → ((e : Ending) (c : R.State) → number ≡ number_of e → (e ≡ halted novalue → stands_at c.active ≡ x.state.current.place) → place ≡ place_of e c)
+  pub answers : (number place : ℕ) (block : List ℕ) → number ≡ number_of (ending_of x.stop) → place ≡ place_of (ending_of x.stop) (view x.state)
       → block ≡ write_block (view x.state)
       → record { number = number; steps = x.count.steps; records = x.count.written / 8; place = place; block = block; log = l' }
       ≡ outcome (recipe_of t) (run (recipes (recipe_of t)) n (room_of l) (view s)) l
   unfolding outcome
   answers number place block f p g =
       let e = d.ended in
-      let number_is = some-injective _ _ (f ∙ ap (Option.map number_of) d.stop_is) ∙ ap number_of (sym e.ends_so) in
       let many : x.count.written / 8 ≡ length (log (recipes (recipe_of t)) u) = omega (arith, e.bytes) in
-      let place_is = p (ending (recipes (recipe_of t)) u) (last (recipes (recipe_of t)) u) number_is stands in
-      let block-is = g ∙ ap write_block (sym e.leaves) in
       let log_is = e.log_is ∙ ap (λ (k : ℕ). log_bytes (log (recipes (recipe_of t)) u) ++ drop k l) e.bytes in
-      rw (number_is, sym e.steps_are, many, place_is, block-is, log_is) refl
+      rw (f, p, g, many, log_is, e.steps_are, e.ends_so, e.leaves) refl
+
+-- the record that a call's end names: that of the statement without a value, at which the active task stands
+pub place-named : (stop : Stop) (s : State) (task : Task) → stop ≡ NoValue → s.active ≡ Some task → task.place ≡ place_of (ending_of stop) (view s)
+place-named stop s task e h = rw (e, h) refl
+
+-- and no other end names one
+pub no_place : (stop : Stop) (s : State) → ((task : Task) → stop ≡ NoValue → s.active ≡ Some task → ⊥) → 0 ≡ place_of (ending_of stop) (view s)
+no_place stop s h = go stop s.active h
+  where
+    go : (stop : Stop) (a : Option Task) → ((task : Task) → stop ≡ NoValue → a ≡ Some task → ⊥)
+        → 0 ≡ place_of (ending_of stop) (record { store = store_of s; active = active_of a; queue = queue_of s.queue })
+    go Finished a h = refl
+    go Paused a h = refl
+    go Stuck a h = refl
+    go Tasks a h = refl
+    go Spent a h = refl
+    go Logfull a h = refl
+    go NoValue None h = refl
+    go NoValue (Some task) h = absurd (h task refl refl)
 
 -- ---- lists of calls of run
 

@@ -1,12 +1,18 @@
 -- What start and run promise: equations with the definitions, for answer, block and log; and what follows of lists of calls.
 -- Assumes nothing.
 use Rattle.std.specs.Prelude.{ℕ, ◌+◌, ◌*◌, ◌≤◌, ◌≡◌, ◌⊎◌, List, [], ◌∷◌, map, length}
+use Rattle.rules.specs.Table as T
 use Rattle.rules.specs.Run as R
 use Rattle.rules.specs.Run.{Outcome, run_on}
 use Rattle.rules.specs.Demand as D
 use Rattle.rules.specs.Demand.{Meets, Continues}
 use Rattle.runner.specs.declared.Started.{Started}
 use Rattle.runner.specs.declared.Answer.{Answer}
+
+-- what start answers by the verdict on table and block
+abbrev pub started_by : T.Verdict → Started
+started_by T.fine = record { number = 0; place = 0 }
+started_by (T.fault n i) = record { number = n; place = i }
 
 abbrev pub started_of : Started → (block : List ℕ) → R.Started
 started_of r b = record { number = r.number; place = r.place; block = b }

@@ -1,17 +1,20 @@
 // The steps of a run call, until it stops.
-ghost use Rattle.std.specs.Prelude.{◌≡◌};
+ghost use Rattle.std.specs.Prelude.{◌≡◌, true};
 ghost use Rattle.rules.specs.Table.{recipe_of};
-ghost use Rattle.rules.specs.Places.{at};
+ghost use Rattle.rules.specs.Places.{at, is_place};
 ghost use Rattle.rules.specs.Steps.{go_to, past_at};
 ghost use Rattle.state.specs.View.{task_of, entry};
-ghost use Rattle.runner.specs.Drive.{Driving, Taking, Drives};
+ghost use Rattle.links.specs.Linked.{Leads};
+ghost use Rattle.runner.specs.Drive.{Driving, Drives};
 
 use active::proceed;
-use count::{Bounds, Count, Stop, is_more};
+use count::{Bounds, Count, Stop};
 use idle::try_all;
+use links::Links;
 use moves::Move;
 use ready::past;
-use state::{State, Task, unpack};
+use state::{State, Task};
+use table::check::Accepted;
 
 // Why a call stopped, its count, and the state that it leaves.
 #[derive(Clone, Copy)]
@@ -21,101 +24,65 @@ pub struct Ran {
     pub state: State,
 }
 
-// A call that stops so.
-fn stopped(stop: Stop, count: Count, state: State) -> Ran
-    ensures { result ≡ record { stop = stop; count = count; state = state } }
-{
-    Ran {
-        stop: stop,
-        count: count,
-        state: state,
-    }
-}
-
-// What the steps up to the next change of the queue go by.
-fn bounds_of(queued: usize, issued: u16, budget: u32) -> Bounds
-    ensures { result ≡ record { queued = queued; issued = issued; budget = budget } }
-{
-    Bounds {
-        queued: queued,
-        issued: issued,
-        budget: budget,
-    }
-}
-
-// No step made, and nothing written.
-fn none_yet() -> Count
-    ensures { (result.steps ≡ 0) × (result.written ≡ 0) }
-{
-    Count {
-        steps: 0,
-        written: 0,
+impl Ran {
+    // A call that stops so.
+    fn stopped(stop: Stop, count: Count, state: State) -> Ran
+        ensures { result ≡ record { stop = stop; count = count; state = state } }
+    {
+        Ran { stop, count, state }
     }
 }
 
 // The front of the queue as it becomes active: past its await, if it stands at one.
-fn onward(table: &[u8], next: &[u16; 4096], queue: &[u64; 32], front: usize) -> Task
-    requires { Taking table.now next.now queue.now front }
-    ensures past_await { task_of result ≡ past_at (at (recipe_of table.now) (entry queue.now front 0).place) (entry queue.now front 0) }
-    ensures moved { task_of result ≡ go_to (entry queue.now front 0) result.place }
+fn onward(table: Accepted, links: &Links, s: &State) -> Task
+    requires leads { Leads (recipe_of table.bytes.now) links.now.next }
+    requires placed { is_place (recipe_of table.bytes.now) (entry s.now.queue 0).place ≡ true }
+    ensures past_await { task_of result ≡ past_at (at (recipe_of table.entry.bytes.now) (entry s.now.queue 0).place) (entry s.now.queue 0) }
+    ensures moved { task_of result ≡ go_to (entry s.now.queue 0) result.place }
 {
-    let mut t = unpack(queue[front]);
-    t.place = past(table, next, t.place);
-    t
+    let task = s.queue.task(0);
+    task.at(past(table, links, task.place))
 }
 
 // All steps of a call. Each arm assigns the new state to the variable that held the old one: joined in a function of their own, the arms
 // would copy all of it.
-pub fn drive(
-    table: &[u8],
-    next: &[u16; 4096],
-    starts: &[u16; 256],
-    first: State,
-    budget: u32,
-    log: &mut [u8],
-) -> Ran
-    requires { Driving table.now next.now starts.now first }
-    ensures { Drives table.now first budget log.old log.new result }
+pub fn drive(table: Accepted, links: &Links, first: State, budget: u32, log: &mut [u8]) -> Ran
+    requires { Driving table.bytes.now links.now first }
+    ensures { Drives table.entry.bytes.now first budget log.old log.new result }
 {
     let mut s = first;
-    let mut n = none_yet();
+    let mut n = Count {
+        steps: 0,
+        written: 0,
+    };
     loop {
-        let bounds = bounds_of(s.queued, s.issued, budget);
-        if s.active {
-            let t = s.current;
-            let p = proceed(table, next, starts, log, t, &mut s.variables, bounds, n);
-            let task = p.task;
-            s.current = task;
+        if let Some(task) = s.active {
+            let bounds = Bounds {
+                queued: s.queue.len,
+                issued: s.issued,
+                budget,
+            };
+            let p = proceed(table, links, log, task, &mut s.variables, bounds, n);
+            s.active = Some(p.task);
             n = p.count;
-            let stop = p.stop;
-            if !is_more(stop) {
-                return stopped(stop, n, s);
-            }
-            let last = p.last;
-            match last {
-                Move::Spawns(_, start, v, _) => {
-                    s = s.spawn(start, v);
-                }
-                Move::Ends => {
-                    s = s.end();
-                }
+            match p.left {
+                Err(stop) => return Ran::stopped(stop, n, s),
+                Ok(Move::Spawns(_, start, v, _)) => s = s.spawn(start, v),
+                Ok(Move::Ends) => s = s.end(),
                 // It gave way or waits: a move that leaves the queue alone does not come here.
-                _ => {
-                    s = s.put_back();
-                }
+                Ok(_) => s = s.put_back(),
             }
         } else {
-            let w = try_all(table, &s.queue, &s.variables, s.front, bounds, log, n);
+            let w = try_all(table, &s, budget, log, n);
             n = w.count;
-            let stop = w.stop;
-            if !is_more(stop) {
-                return stopped(stop, n, s.turn(w.turns));
-            }
             if w.turns != 0 {
                 s = s.turn(w.turns);
             }
-            let t = onward(table, next, &s.queue, s.front);
-            s = s.take_up(t);
+            if let Some(stop) = w.stop {
+                return Ran::stopped(stop, n, s);
+            }
+            let task = onward(table, links, &s);
+            s = s.take_up(task);
         }
     }
 }

@@ -1,4 +1,2 @@
 pub mod Ring
-pub mod Packed
-pub mod Told
 pub mod Views

@@ -6,61 +6,74 @@ use mathlib.Core.List.{List, [], ◌∷◌, ◌++◌}
 use native.Mathlib.Omega.{arith}
 use native.Mathlib.Nat.{add-zero}
 use native.Mathlib.Numerals.{add-one}
-use lib.ListN.{length, get_or, set}
+use lib.ListN.{length, get_or, set, drop}
 use lib.Seq.{get_or-set_same, get_or-set_other}
 use Rattle.rules.specs.State as R
 use Rattle.rules.specs.State.{tab}
 use Rattle.rules.proofs.Lists.{tab-same, tab-first}
-use Rattle.rules.proofs.Blocks.Write.{Held}
-use Rattle.state.specs.View.{packed, unpacked, ring, entry, queue_of, turned}
-use Rattle.state.proofs.Packed.{unpacked-packed}
+use Rattle.state.specs.declared.Task.{Task}
+use Rattle.state.specs.declared.Queue.{Queue}
+use Rattle.state.specs.View.{task_of, ring, no_task, entry, queue_of, turned}
+
+-- the n tasks of an array from the front on
+abbrev pub tasks_from : List Task → (front n : ℕ) → List (R.Task ℕ)
+tasks_from ts front n = tab n (λ i. task_of (get_or ts (ring front i) no_task))
+
+pub queue-is : (q : Queue) → queue_of q ≡ tasks_from q.tasks q.front q.len
+unfolding queue_of
+queue-is q = refl
+
+same-place : (ts : List Task) (i j : ℕ) → i ≡ j → task_of (get_or ts i no_task) ≡ task_of (get_or ts j no_task)
+same-place ts i j e = ap (λ (k : ℕ). task_of (get_or ts k no_task)) e
 
 -- the front may be given by any number: its remainder by 32 counts
-pub front-any : (q : List ℕ) (f n : ℕ) → queue_of q (f % 32) n ≡ queue_of q f n
-unfolding queue_of
-front-any q f n =
-    tab-same (entry q (f % 32)) (entry q f) n
-    (λ i h. let e : ring (f % 32) i ≡ ring f i = omega arith in ap (λ (k : ℕ). unpacked (get_or q k 0)) e)
+pub front-any : (ts : List Task) (f n : ℕ) → tasks_from ts (f % 32) n ≡ tasks_from ts f n
+front-any ts f n = tab-same _ _ n (λ i h. same-place ts (ring (f % 32) i) (ring f i) (omega arith))
 
 -- stored at the back
-pub joins : (q : List ℕ) (f n x : ℕ) → length q ≡ 32 → n < 32
-    → queue_of (set q (ring f n) x) f (suc n) ≡ queue_of q f n ++ unpacked x ∷ []
-unfolding queue_of tab
-joins q f n x l h =
+pub joins : (ts : List Task) (f n : ℕ) (t : Task) → length ts ≡ 32 → n < 32
+    → tasks_from (set ts (ring f n) t) f (n + 1) ≡ tasks_from ts f n ++ task_of t ∷ []
+unfolding tab
+joins ts f n t l h =
     rw (
-      tab-same (entry (set q (ring f n) x) f) (entry q f) n
-          (λ i g. ap unpacked (get_or-set_other q (ring f n) (ring f i) x 0 (omega arith))),
-      get_or-set_same q (ring f n) x 0 (omega arith),
+      add-one n,
+      tab-same (λ i. task_of (get_or (set ts (ring f n) t) (ring f i) no_task)) (λ i. task_of (get_or ts (ring f i) no_task)) n
+          (λ i g. ap task_of (get_or-set_other ts (ring f n) (ring f i) t no_task (omega arith))),
+      get_or-set_same ts (ring f n) t no_task (omega arith),
     )
-
-pub joins_task : (q : List ℕ) (f n x : ℕ) (t : R.Task ℕ) → length q ≡ 32 → n < 32 → Held t → x ≡ packed t
-    → queue_of (set q (ring f n) x) f (n + 1) ≡ queue_of q f n ++ t ∷ []
-joins_task q f n x t l h g e = rw (add-one n, joins q f n x l h, e, unpacked-packed t g)
 
 -- the front, and the rest
-pub parts : (q : List ℕ) (f n : ℕ) → queue_of q f (suc n) ≡ unpacked (get_or q (f % 32) 0) ∷ queue_of q (suc f) n
-unfolding queue_of
-parts q f n =
-    tab-first (entry q f) n
+pub parts : (ts : List Task) (f n : ℕ) → tasks_from ts f (suc n) ≡ task_of (get_or ts (f % 32) no_task) ∷ tasks_from ts (suc f) n
+parts ts f n =
+    tab-first (λ i. task_of (get_or ts (ring f i) no_task)) n
     ∙ rw (
       add-zero f,
-      tab-same (λ i. entry q f (suc i)) (entry q (suc f)) n
-          (λ i h. let e : ring f (suc i) ≡ ring (suc f) i = omega arith in ap (λ (k : ℕ). unpacked (get_or q k 0)) e),
+      tab-same (λ i. task_of (get_or ts (ring f (suc i)) no_task)) (λ i. task_of (get_or ts (ring (suc f) i) no_task)) n
+          (λ i h. same-place ts (ring f (suc i)) (ring (suc f) i) (omega arith)),
     )
 
-pub front_rest : (q : List ℕ) (f n : ℕ) → 0 < n → queue_of q f n ≡ entry q f 0 ∷ queue_of q ((f + 1) % 32) (n - 1)
-front_rest q f zero g = absurd (omega arith)
-front_rest q f (suc n) g =
+pub rest : (ts : List Task) (f n : ℕ) → 0 < n → tasks_from ts ((f + 1) % 32) (n - 1) ≡ drop 1 (tasks_from ts f n)
+rest ts f zero g = absurd (omega arith)
+rest ts f (suc n) g =
     let e : suc n - 1 ≡ n = omega arith in
-    rw (e, front-any q (f + 1) n, add-one f, add-zero f) (parts q f n)
+    rw (e, front-any ts (f + 1) n, add-one f, parts ts f n)
+
+first-rest : (ts : List Task) (f n : ℕ) → 0 < n
+    → tasks_from ts f n ≡ task_of (get_or ts (ring f 0) no_task) ∷ drop 1 (tasks_from ts f n)
+first-rest ts f zero g = absurd (omega arith)
+first-rest ts f (suc n) g = rw (parts ts f n, add-zero f)
+
+pub front_rest : (q : Queue) → 0 < q.len → queue_of q ≡ entry q 0 ∷ drop 1 (queue_of q)
+unfolding queue_of
+front_rest q g = first-rest q.tasks q.front q.len g
 
 -- the front turned to the back
-pub one-turn : (q : List ℕ) (f n : ℕ) → length q ≡ 32 → n ≤ 32
-    → queue_of (set q (ring f n) (get_or q (f % 32) 0)) (suc f) n ≡ turned 1 (queue_of q f n)
-one-turn q f zero l h = unfold queue_of tab in refl
-one-turn q f (suc n) l h =
+pub one-turn : (ts : List Task) (f n : ℕ) → length ts ≡ 32 → n ≤ 32
+    → tasks_from (set ts (ring f n) (get_or ts (f % 32) no_task)) (suc f) n ≡ turned 1 (tasks_from ts f n)
+one-turn ts f zero l h = unfold tab in refl
+one-turn ts f (suc n) l h =
     let e : ring f (suc n) ≡ ring (suc f) n = omega arith in
-    rw (e, parts q f n) (joins q (suc f) n (get_or q (f % 32) 0) l (omega arith))
+    rw (e, parts ts f n, ← add-one n) (joins ts (suc f) n (get_or ts (f % 32) no_task) l (omega arith))
 
 -- one turn more
 pub turned_more : {T : Type 0} (n : ℕ) (q : List T) → turned (suc n) q ≡ turned 1 (turned n q)

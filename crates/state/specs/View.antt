@@ -1,49 +1,42 @@
 -- How the code's State stands for a state of the definitions.
 -- Assumes nothing.
-use Rattle.std.specs.Prelude.{ℕ, zero, suc, ◌+◌, ◌*◌, ◌/◌, ◌%◌, ◌≤◌, ◌<◌, Bool, cond, List, [], ◌∷◌, ◌++◌, ℤ, get_or}
+use Rattle.std.specs.Prelude.{ℕ, zero, suc, ◌+◌, ◌%◌, List, [], ◌∷◌, ◌++◌, ℤ, pos, get_or}
 use Rattle.std.proofs.Math.Option.{Option, none, some}
-use Rattle.rules.specs.Fields.{signed, bits}
 use Rattle.rules.specs.State as R
 use Rattle.rules.specs.State.{Store, tab}
-use Rattle.rules.specs.Scheduler.{is}
 use Rattle.rules.specs.Steps.{go_to}
+use Rattle.std.specs.Prelude as P
 use Rattle.state.specs.declared.Task.{Task}
+use Rattle.state.specs.declared.Queue.{Queue}
 use Rattle.state.specs.declared.State.{State}
 
 abbrev pub task_of : Task → R.Task ℕ
 task_of t = record { number = t.number; place = t.place; parameter = t.parameter }
 
--- A queued task is held as the number that the 8 bytes of its state record spell.
-abbrev pub packed : R.Task ℕ → ℕ
-packed t = t.number + 65536 * t.place + 4294967296 * bits t.parameter
-
-abbrev pub unpacked : ℕ → R.Task ℕ
-unpacked x = record { number = x % 65536; place = x / 65536 % 65536; parameter = signed (x / 4294967296) }
-
 -- The queue is a ring: task i from the front stands at this index of the array.
 abbrev pub ring : (front i : ℕ) → ℕ
 ring front i = (front + i) % 32
 
-abbrev pub entry : List ℕ → (front i : ℕ) → R.Task ℕ
-entry queue front i = unpacked (get_or queue (ring front i) 0)
+-- what stands at an index behind the array: no task
+abbrev pub no_task : Task
+no_task = record { number = 0; place = 0; parameter = pos 0 }
 
--- the n tasks from the front on
-unfoldable pub queue_of : List ℕ → (front n : ℕ) → List (R.Task ℕ)
-queue_of queue front n = tab n (entry queue front)
+abbrev pub entry : Queue → (i : ℕ) → R.Task ℕ
+entry q i = task_of (get_or q.tasks (ring q.front i) no_task)
+
+-- the queued tasks, from the front on
+unfoldable pub queue_of : Queue → List (R.Task ℕ)
+queue_of q = tab q.len (entry q)
 
 abbrev pub store_of : State → Store
 store_of s = record { issued = s.issued; variables = s.variables }
 
-abbrev pub active_of : Bool → Task → Option (R.Task ℕ)
-active_of on t = cond on (some (task_of t)) none
+abbrev pub active_of : P.Option Task → Option (R.Task ℕ)
+active_of P.None = none
+active_of (P.Some t) = some (task_of t)
 
 abbrev pub view : State → R.State
-view s = record { store = store_of s; active = active_of s.active s.current; queue = queue_of s.queue s.front s.queued }
-
--- what the methods keep
-pub record Fine (s : State) : Type 0 where
-  pub front_fits : s.front < 32
-  pub few : s.queued + is s.active ≤ 32
+view s = record { store = store_of s; active = active_of s.active; queue = queue_of s.queue }
 
 -- ---- what the methods do
 

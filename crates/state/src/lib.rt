@@ -2,13 +2,9 @@
 
 #![tactic(auto)]
 
-ghost use Rattle.std.specs.Prelude.{◌≡◌, true, false, ◌+◌, ◌<◌, ◌≤◌, set};
-ghost use Rattle.rules.specs.State as R;
-ghost use Rattle.rules.specs.Steps.{go_to};
-ghost use Rattle.state.specs.View.{task_of, packed, unpacked, entry, view, Fine, put_back, take_up, spawn, end, turn};
+ghost use Rattle.std.specs.Prelude.{◌≡◌, ◌+◌, ◌<◌, ◌≤◌, IsSome};
 
-use values::{signed, unsigned};
-
+// A task by its number, the place where it stands, and its parameter.
 #[derive(Clone, Copy)]
 pub struct Task {
     pub number: u16,
@@ -16,174 +12,201 @@ pub struct Task {
     pub parameter: i32,
 }
 
-// `current` is the active task where `active` is true.
-// The queue is a ring of packed tasks: `queued` of them, the front at the index `front`.
-#[derive(Clone, Copy)]
-pub struct State {
-    pub issued: u16,
-    pub active: bool,
-    pub current: Task,
-    pub front: usize,
-    pub queued: usize,
-    pub queue: [u64; 32],
-    pub variables: [i32; 64],
-}
+impl Task {
+    ghost use Rattle.rules.specs.Steps.{go_to};
+    ghost use Rattle.state.specs.View.{task_of};
 
-// The task as the number that the 8 bytes of its state record spell.
-pub fn pack(t: Task) -> u64
-    ensures { result ≡ packed (task_of t) }
-{
-    (t.number as u64) + 65536 * (t.place as u64) + 4294967296 * (unsigned(t.parameter) as u64)
-}
-
-pub fn unpack(x: u64) -> Task
-    ensures { task_of result ≡ unpacked x }
-{
-    let number = (x % 65536) as u16;
-    let place = (x / 65536 % 65536) as u16;
-    let parameter = signed((x / 4294967296) as u32);
-    Task {
-        number: number,
-        place: place,
-        parameter: parameter,
+    // The task where it goes on.
+    pub fn at(self, place: u16) -> Task
+        ensures { task_of result ≡ go_to (task_of self) place }
+    {
+        Task {
+            number: self.number,
+            place,
+            parameter: self.parameter,
+        }
     }
 }
 
-// A queue with a task stored at an index.
-fn stored(queue: [u64; 32], at: usize, task: u64) -> [u64; 32]
-    requires { at < 32 }
-    ensures { result ≡ set queue at task }
-{
-    let mut q = queue;
-    q[at] = task;
-    q
+// The tasks that wait for their turn, as a ring: `len` of them, the front at the index `front`.
+#[derive(Clone, Copy)]
+pub struct Queue {
+    pub tasks: [Task; 32],
+    pub front: usize,
+    pub len: usize,
+    ghost front_fits: { front < 32 },
+    ghost few: { len ≤ 32 },
 }
 
-// Each method builds the new state as a literal: assigned to the variable that held the old one, it copies the queue where a task is stored
-// in it, and nothing else.
+impl Queue {
+    ghost use Rattle.std.specs.Prelude.{[], ◌∷◌, ◌++◌, drop};
+    ghost use Rattle.state.specs.View.{task_of, entry, queue_of, turned};
+
+    // Task i from the front.
+    pub fn task(&self, i: usize) -> Task
+        requires { i < 32 }
+        ensures { task_of result ≡ entry self.now i }
+    {
+        self.tasks[(self.front + i) % 32]
+    }
+
+    // With a task at the back.
+    fn pushed(self, task: Task) -> Queue
+        requires { self.len < 32 }
+        ensures tasks { queue_of result ≡ queue_of self ++ task_of task ∷ [] }
+        ensures len { result.len ≡ self.len + 1 }
+    {
+        let mut tasks = self.tasks;
+        tasks[(self.front + self.len) % 32] = task;
+        Queue {
+            tasks,
+            front: self.front,
+            len: self.len + 1,
+        }
+    }
+
+    // Without its front.
+    fn popped(self) -> Queue
+        requires { 0 < self.len }
+        ensures tasks { queue_of result ≡ drop 1 (queue_of self) }
+        ensures len { result.len + 1 ≡ self.len }
+    {
+        let tasks = self.tasks;
+        Queue {
+            tasks,
+            front: (self.front + 1) % 32,
+            len: self.len - 1,
+        }
+    }
+
+    // The front is turned to the back, n times.
+    fn turned(mut self, n: usize) -> Queue
+        requires { n ≤ self.len }
+        ensures tasks { queue_of result ≡ turned n (queue_of self) }
+        ensures len { result.len ≡ self.len }
+    {
+        for i in 0..n {
+            let from = (self.front + i) % 32;
+            let to = (from + self.len) % 32;
+            self.tasks[to] = self.tasks[from];
+        }
+        self.front = (self.front + n) % 32;
+        self
+    }
+}
+
+#[derive(Clone, Copy)]
+pub struct State {
+    pub issued: u16,
+    pub active: Option<Task>,
+    pub queue: Queue,
+    pub variables: [i32; 64],
+    ghost few: { IsSome active → queue.len < 32 },
+}
+
 impl State {
+    ghost use Rattle.rules.specs.State as R;
+    ghost use Rattle.rules.specs.Steps.{go_to};
+    ghost use Rattle.state.specs.View.{task_of, entry, view, put_back, take_up, spawn, end, turn};
+
+    // A fresh state.
+    pub fn fresh() -> State
+        ensures { view result ≡ R.fresh }
+    {
+        let first = Task {
+            number: 1,
+            place: 1,
+            parameter: 0,
+        };
+        State {
+            issued: 1,
+            active: Some(first),
+            queue: Queue {
+                tasks: [first; 32],
+                front: 0,
+                len: 0,
+            },
+            variables: [0; 64],
+        }
+    }
+
     // The active task joins the back.
     pub fn put_back(self) -> State
-        requires { Fine self × (self.active ≡ true) }
-        ensures { (view result ≡ put_back (view self).active (view self)) × Fine result }
+        ensures { view result ≡ put_back (view self).active (view self) }
     {
-        let t = self.current;
-        let front = self.front;
-        let queued = self.queued;
-        let old = self.queue;
-        let queue = stored(old, (front + queued) % 32, pack(t));
+        let Some(task) = self.active else {
+            return self;
+        };
         let variables = self.variables;
         State {
             issued: self.issued,
-            active: false,
-            current: t,
-            front: front,
-            queued: queued + 1,
-            queue: queue,
-            variables: variables,
+            active: None,
+            queue: self.queue.pushed(task),
+            variables,
         }
     }
 
     // The front, which is handed over at the place where it goes on, becomes active.
-    pub fn take_up(self, t: Task) -> State
-        requires { Fine self × (self.active ≡ false) × (0 < self.queued) × (task_of t ≡ go_to (entry self.queue self.front 0) t.place) }
-        ensures { (view result ≡ take_up (view self).queue t.place (view self)) × Fine result }
+    pub fn take_up(self, task: Task) -> State
+        requires idle { self.active ≡ None }
+        requires queued { 0 < self.queue.len }
+        requires front { task_of task ≡ go_to (entry self.queue 0) task.place }
+        ensures { view result ≡ take_up (view self).queue task.place (view self) }
     {
-        let queue = self.queue;
         let variables = self.variables;
         State {
             issued: self.issued,
-            active: true,
-            current: t,
-            front: (self.front + 1) % 32,
-            queued: self.queued - 1,
-            queue: queue,
-            variables: variables,
+            active: Some(task),
+            queue: self.queue.popped(),
+            variables,
         }
     }
 
     // The next number is issued, and its task joins the back.
     pub fn spawn(self, place: u16, argument: i32) -> State
-        requires { Fine self × (self.active ≡ true) × (self.queued < 31) × (self.issued < 65535) }
-        ensures { (view result ≡ spawn place argument (view self)) × Fine result }
+        requires live { self.queue.len < 31 }
+        requires issued { self.issued < 65535 }
+        ensures { view result ≡ spawn place argument (view self) }
     {
         let number = self.issued + 1;
-        let front = self.front;
-        let queued = self.queued;
         let task = Task {
-            number: number,
-            place: place,
+            number,
+            place,
             parameter: argument,
         };
-        let old = self.queue;
-        let queue = stored(old, (front + queued) % 32, pack(task));
-        let current = self.current;
         let variables = self.variables;
         State {
             issued: number,
             active: self.active,
-            current: current,
-            front: front,
-            queued: queued + 1,
-            queue: queue,
-            variables: variables,
+            queue: self.queue.pushed(task),
+            variables,
         }
     }
 
     // The active task is over.
     pub fn end(self) -> State
-        requires { Fine self }
-        ensures { (view result ≡ end (view self)) × Fine result }
+        ensures { view result ≡ end (view self) }
     {
-        let current = self.current;
-        let queue = self.queue;
         let variables = self.variables;
         State {
             issued: self.issued,
-            active: false, // nothing of it stays
-            current: current,
-            front: self.front,
-            queued: self.queued,
-            queue: queue,
-            variables: variables,
+            active: None, // nothing of it stays
+            queue: self.queue,
+            variables,
         }
     }
 
     // The front is turned to the back, n times.
-    pub fn turn(mut self, n: usize) -> State
-        requires { Fine self × (self.active ≡ false) × (n ≤ self.queued) }
-        ensures { (view result ≡ turn n (view self)) × Fine result }
+    pub fn turn(self, n: usize) -> State
+        requires { n ≤ self.queue.len }
+        ensures { view result ≡ turn n (view self) }
     {
-        let front = self.front;
-        let queued = self.queued;
-        let mut i: usize = 0;
-        while i < n {
-            let from = (front + i) % 32;
-            let to = (from + queued) % 32;
-            let task = self.queue[from];
-            self.queue[to] = task;
-            i += 1;
+        let variables = self.variables;
+        State {
+            issued: self.issued,
+            active: self.active,
+            queue: self.queue.turned(n),
+            variables,
         }
-        self.front = (front + n) % 32;
-        self
-    }
-}
-
-// A fresh state.
-pub fn fresh() -> State
-    ensures { (view result ≡ R.fresh) × Fine result }
-{
-    State {
-        issued: 1,
-        active: true,
-        current: Task {
-            number: 1,
-            place: 1,
-            parameter: 0,
-        },
-        front: 0,
-        queued: 0,
-        queue: [0; 32],
-        variables: [0; 64],
     }
 }

@@ -1,7 +1,7 @@
 -- The check of an expression, answer by answer, by the tests that lead to it.
 -- Assumes nothing.
 use Prim.Native.Nat.{ℕ, zero, suc, ◌+◌, ◌-◌, ◌*◌, ◌≤◌, ◌<◌}
-use mathlib.Core.Path.{◌≡◌, refl, sym, ap, subst}
+use mathlib.Core.Path.{◌≡◌, refl, sym, ap, ◌∙◌, subst}
 use mathlib.Core.Bool.{true}
 use mathlib.Core.List.{List}
 use native.Mathlib.Omega.{arith}
@@ -14,6 +14,9 @@ use borrow.Author.Tests.{leb-true, ltb-true}
 use Rattle.rules.specs.Table.{kind_of, span_of, inner, after, kind_row, Sort, expression, Ends, at_end, before_end, span_fits, record_fault, Verdict, fine, fault, enclosed, check_e}
 use Rattle.rules.proofs.Verdicts.{and_true}
 use Rattle.rules.proofs.Grammar.Checking.{Right, right-ends, right-span, right-whole, unless_none, unless-some, operands, length-inner, length-after}
+use Rattle.table.specs.declared.refusal.Rule.{Rule}
+use Rattle.table.specs.declared.refusal.Rule.TheVariants.{TableLength, Kind, Span, Name, Value, Depth, Procedure, BlockLength, StateRecord, LiveTasks}
+use Rattle.table.specs.Refusals.{rule_number}
 use Rattle.table.specs.Check.{levelled, Part}
 
 -- ---- a record's own fault, or no level left, or what lies below it
@@ -34,6 +37,29 @@ pub expr-levels : (d i : ℕ) (ends : Ends) (p : List ℕ) → levelled (record_
 unfolding check_e
 expr-levels zero i ends p = refl
 expr-levels (suc d) i ends p = refl
+
+-- a rule's number is no 0, which stands for no fault
+pub rule-some : (r : Rule) → ¬ (rule_number r ≡ 0)
+rule-some TableLength h = absurd (omega arith)
+rule-some Kind h = absurd (omega arith)
+rule-some Span h = absurd (omega arith)
+rule-some Name h = absurd (omega arith)
+rule-some Value h = absurd (omega arith)
+rule-some Depth h = absurd (omega arith)
+rule-some Procedure h = absurd (omega arith)
+rule-some BlockLength h = absurd (omega arith)
+rule-some StateRecord h = absurd (omega arith)
+rule-some LiveTasks h = absurd (omega arith)
+
+module _ (d i : ℕ) (ends : Ends) (p : List ℕ) where
+  pub expr_own : (r : Rule) → rule_number r ≡ record_fault expression ends p → fault (rule_number r) i ≡ check_e d i ends p
+  expr_own r e = rw e (level_own _ d i _ (λ z. rule-some r (e ∙ z)) ∙ expr-levels d i ends p)
+
+  pub expr_none : 0 ≡ record_fault expression ends p → d ≡ 0 → fault 16 i ≡ check_e d i ends p
+  expr_none e z = level_none _ d i _ (sym e) z ∙ expr-levels d i ends p
+
+  pub expr_below : 0 ≡ record_fault expression ends p → ¬ (d ≡ 0) → operands (d - 1) i p ≡ check_e d i ends p
+  expr_below e f = level_below _ d i (λ e. operands e i p) (sym e) f ∙ expr-levels d i ends p
 
 -- the bounds of an expression's kind
 pub kind_bounds : {ends : Ends} {p : List ℕ} → Right expression ends p → (9 ≤ kind_of p) × (kind_of p ≤ 12)

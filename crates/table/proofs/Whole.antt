@@ -1,107 +1,79 @@
 -- The check of a whole table: its length, its procedures and its spawns, record by record.
 -- Assumes nothing.
-use Prim.Native.Nat.{ℕ, suc, ◌+◌, ◌-◌, ◌%◌, ◌≤◌, ◌<◌}
-use mathlib.Core.Path.{◌≡◌, refl, ap, ◌∙◌, subst}
+use Prim.Native.Nat.{ℕ, suc, ◌+◌, ◌%◌, ◌<◌}
+use mathlib.Core.Path.{◌≡◌, refl, ap, ◌∙◌}
 use mathlib.Core.Bool.{true, false, cond}
-use mathlib.Core.List.{List}
+use mathlib.Core.List.{List, [], ◌++◌}
 use native.Mathlib.Omega.{arith}
-use lib.Dec.{eqb, leb}
-use lib.IntN.{nat_abs}
-use lib.ListN.{length, get_or, drop, length-drop}
-use lib.Seq.{drop-drop}
-use borrow.Author.Tests.{eq-eqb, ne_eqb, le-leb, lt-ltb, le-ltb}
-use Rattle.rules.specs.Fields.{signed}
+use lib.Dec.{eqb}
+use lib.ListN.{length, get_or, drop, length-append, get_or-append}
+use lib.Seq.{drop-append_seam}
+use Rattle.std.proofs.lemmas.List.{nil_from_length}
 use Rattle.rules.specs.Table.{kind_of, fine, fault, procedure, check_rows, check_spawns, names_none, procedures, records, length_fits, check}
 use Rattle.rules.proofs.Grammar.Theorem.{length-fits}
-use Rattle.rules.proofs.Standing.{kind_at}
 use Rattle.table.specs.Check.{Row}
-
--- ---- the length
-
-pub length-zero : (l : ℕ) → l ≡ 0 → false ≡ length_fits l
-length-zero l h = rw h refl
-
-module _ (l : ℕ) (some : ¬ (l ≡ 0)) where
-  from_one : leb 1 l ≡ true
-  from_one = le-leb 1 l (omega arith)
-
-  pub length_odd : ¬ (l % 8 ≡ 0) → false ≡ length_fits l
-  length_odd h = rw (from_one, ne_eqb (l % 8) 0 h) refl
-
-  pub length_last : l % 8 ≡ 0 → leb l 32768 ≡ length_fits l
-  length_last h = rw (from_one, eq-eqb (l % 8) 0 h) refl
 
 pub fit_row : (p : List ℕ) → length_fits (length p) ≡ true → Row 0 p
 fit_row p h = let l = length-fits (length p) h in record { aligned = l.aligned; placed = omega (arith, l.few) }
 
--- ---- a value without its sign
+-- ---- the records that are still to come
 
-pub magnitude_low : (w : ℕ) → w < 2147483648 → w ≡ nat_abs (signed w)
-magnitude_low w h = rw (lt-ltb w 2147483648 h) refl
+-- whole chunks of 8 bytes
+pub record Chunks (p : List ℕ) (size : ℕ) : Type 0 where
+  pub eight : size ≡ 8
+  pub aligned : length p % 8 ≡ 0
 
-pub magnitude_high : (w : ℕ) → w < 4294967296 → 2147483648 ≤ w → 4294967296 - w ≡ nat_abs (signed w)
-magnitude_high w l h = rw (le-ltb w 2147483648 h) (omega arith)
+pub chunks_none : {p : List ℕ} {size : ℕ} → Chunks p size → length p < size → p ≡ []
+chunks_none {p} c h = nil_from_length p (let e = c.eight in let a = c.aligned in omega arith)
 
--- ---- the records from off bytes on decide
+-- x is the first of p, and q what follows it
+pub record Next (p x q : List ℕ) : Type 0 where
+  pub aligned : length p % 8 ≡ 0
+  pub joined : p ≡ x ++ q
+  pub eight : length x ≡ 8
 
--- whole records are left
-records-suc : (p : List ℕ) → length p % 8 ≡ 0 → 0 < length p → records p ≡ suc (records (drop 8 p))
-records-suc p a h = omega (arith, length-drop 8 p)
+pub chunk-next : (p x q : List ℕ) {size : ℕ} → Chunks p size → p ≡ x ++ q → length x ≡ size → Next p x q
+chunk-next p x q c e h = record { aligned = c.aligned; joined = e; eight = h ∙ c.eight }
 
-pub record Rest (t : List ℕ) (off : ℕ) : Type 0 where
-  pub inside : off ≤ length t
-  pub aligned : length (drop off t) % 8 ≡ 0
+module _ {p x q : List ℕ} (s : Next p x q) where
+  pub chunk-length : length p ≡ 8 + length q
+  chunk-length = let l = s.eight in omega (arith, ap length s.joined, length-append x q)
 
-module _ {t : List ℕ} {off : ℕ} (r : Rest t off) where
-  pub rest_some : off < length t → 8 ≤ length (drop off t)
-  rest_some h = let a = r.aligned in omega (arith, length-drop off t)
+  pub chunks-next : {n size : ℕ} → Chunks p size → n ≡ size → Chunks q n
+  chunks-next c f = record { eight = f ∙ c.eight; aligned = let w = chunk-length in let a = s.aligned in omega arith }
 
-  rest-drop : drop 8 (drop off t) ≡ drop (off + 8) t
-  rest-drop = drop-drop 8 off t
+  byte : (k : ℕ) → k < 8 → get_or p k 0 ≡ get_or x k 0
+  byte k l = ap (λ (t : List ℕ). get_or t k 0) s.joined ∙ get_or-append x q 0 k (let e = s.eight in omega arith)
 
-  pub rest-next : off < length t → Rest t (off + 8)
-  rest-next h =
-      let s = rest_some h in
-      let l = length-drop off t in
-      record { inside = omega arith; aligned = subst (λ (q : List ℕ). length q % 8 ≡ 0) rest-drop (let a = r.aligned in omega (arith, length-drop 8 (drop off t))) }
+  names-chunk : (n : ℕ) → names_none n p ≡ names_none n x
+  names-chunk n = rw (byte 0 (omega arith), byte 4 (omega arith), byte 5 (omega arith), byte 6 (omega arith), byte 7 (omega arith)) refl
 
-  rest-records : off < length t → records (drop off t) ≡ suc (records (drop (off + 8) t))
-  rest-records h = records-suc (drop off t) r.aligned (omega (arith, rest_some h)) ∙ ap (λ (q : List ℕ). suc (records q)) rest-drop
+  behind : drop 8 p ≡ q
+  behind = rw (s.joined, ← s.eight) (drop-append_seam x q)
 
-  pub procedures-next : off < length t → procedures (records (drop off t)) (drop off t) ≡ cond (eqb (kind_of (drop off t)) 1) 1 0 + procedures (records (drop (off + 8) t)) (drop (off + 8) t)
+  records-next : records p ≡ suc (records q)
+  records-next = let w = chunk-length in omega arith
+
+  pub procedures-next : procedures (records p) p ≡ cond (eqb (kind_of x) 1) 1 0 + procedures (records q) q
   unfolding procedures
-  procedures-next h = rw (rest-records h, rest-drop) refl
+  procedures-next = rw (records-next, behind, byte 0 (omega arith)) refl
 
-  module _ (n i : ℕ) (h : off < length t) where
-    pub spawns-here : names_none n (drop off t) ≡ true → fault 17 i ≡ check_spawns (records (drop off t)) n i (drop off t)
+  module _ (n i : ℕ) where
+    pub spawns-here : names_none n x ≡ true → fault 17 i ≡ check_spawns (records p) n i p
     unfolding check_spawns
-    spawns-here e = rw (rest-records h, e) refl
+    spawns-here t = rw (records-next, names-chunk n, t) refl
 
-    pub spawns-next : names_none n (drop off t) ≡ false → check_spawns (records (drop (off + 8) t)) n (i + 1) (drop (off + 8) t) ≡ check_spawns (records (drop off t)) n i (drop off t)
+    pub spawns-next : names_none n x ≡ false → check_spawns (records q) n (i + 1) q ≡ check_spawns (records p) n i p
     unfolding check_spawns
-    spawns-next e = rw (rest-records h, e, rest-drop) refl
+    spawns-next t = rw (records-next, behind, names-chunk n, t) refl
 
-  pub rest_none : length t ≤ off → records (drop off t) ≡ 0
-  rest_none h = omega (arith, length-drop off t)
+pub no-procedures : procedures (records []) [] ≡ 0
+unfolding procedures
+no-procedures = refl
 
-  pub procedures-end : length t ≤ off → procedures (records (drop off t)) (drop off t) ≡ 0
-  unfolding procedures
-  procedures-end h = rw (rest_none h) refl
-
-  pub spawns-end : (n i : ℕ) → length t ≤ off → check_spawns (records (drop off t)) n i (drop off t) ≡ fine
-  unfolding check_spawns
-  spawns-end n i h = rw (rest_none h) refl
-
-pub rest-start : (t : List ℕ) → Row 0 t → Rest t 0
-rest-start t r = record { inside = omega arith; aligned = r.aligned }
-
--- a procedure is counted, another record is not
-module _ (t : List ℕ) (off count : ℕ) (r : Rest t off) (h : off < length t) (e : count + procedures (records (drop off t)) (drop off t) ≡ procedures (records t) t) where
-  pub counted : get_or t off 0 ≡ 1 → count + 1 + procedures (records (drop (off + 8) t)) (drop (off + 8) t) ≡ procedures (records t) t
-  counted k = let a : cond {A = ℕ} (eqb (kind_of (drop off t)) 1) 1 0 ≡ 1 = rw (kind_at t off, k) refl in omega (arith, procedures-next r h)
-
-  pub passed_over : ¬ (get_or t off 0 ≡ 1) → count + procedures (records (drop (off + 8) t)) (drop (off + 8) t) ≡ procedures (records t) t
-  passed_over k = let a : cond {A = ℕ} (eqb (kind_of (drop off t)) 1) 1 0 ≡ 0 = rw (kind_at t off, ne_eqb (get_or t off 0) 1 k) refl in omega (arith, procedures-next r h)
+pub no-spawns : (n i : ℕ) → check_spawns (records []) n i [] ≡ fine
+unfolding check_spawns
+no-spawns n i = refl
 
 -- ---- the whole
 

@@ -1,1 +1,3 @@
 pub mod Check
+pub mod Kinds
+pub mod Refusals

@@ -1,20 +1,17 @@
-// The check of a table: accepted, or the number and the place of its earliest fault.
-ghost use Rattle.std.specs.Prelude.{◌≡◌, ◌&&◌, List, leb, ℕ, ◌+◌, ◌*◌, ◌≤◌, ◌<◌, length, get_or, nat_abs};
-ghost use Rattle.rules.specs.Table.{statement, expression, within, kind_of, name_of, span_of, is_of, ends_fit, span_right, name_right, value_right, record_fault, check_e, check_rows, check_spawns, names_none, procedures, records, length_fits, fault, check};
-ghost use Rattle.rules.specs.Fields.{signed, word};
-ghost use Rattle.table.specs.Check.{name_leasts, name_mosts, code_of, codes, enclosing, value_mosts, sort_of, ends_of, verdict_of, verdict_in, Fields, Part, Row, OfRow, head_of, body, body_at, Parted};
+// The check of a table: accepted, or the rule that is broken and the place of the earliest fault.
+ghost use Rattle.std.specs.Prelude.{◌≡◌, true, ◌&&◌, leb, List, ℕ, ◌+◌, ◌*◌, ◌≤◌, ◌<◌, length, IfOk};
+ghost use Rattle.rules.specs.Fields.{signed};
+ghost use Rattle.rules.specs.Table.{is_of, ends_fit, span_fits, value_fits, kind_row, kind_of, span_of, record_fault, check_e, check_rows, check_spawns, names_none, procedures, records, length_fits, fine, check};
+ghost use Rattle.rules.specs.Demand.{Bytes};
+ghost use Rattle.table.specs.Kinds.{number_of};
+ghost use Rattle.table.specs.Refusals.{verdict_of};
+ghost use Rattle.table.specs.Check.{sort_of, ends_of, encloses_of, fault_of, Fields, Part, Row, OfRow, enclosing, head_of};
 
-use crate::record::{beyond, enclosed, from, span_of, wide, word_of};
-
-// What checking finds: the number and the place of a fault, or 0 and 0 where there is none.
-#[derive(Clone, Copy)]
-pub struct Verdict {
-    pub number: u32,
-    pub place: u32,
-}
+use crate::record::{Kind, beyond, enclosed, from, kind_at, span_of, word_of};
+use crate::refusal::{Refusal, Rule};
 
 // What is due where a record stands.
-#[derive(Clone, Copy)]
+#[derive(Clone, Copy, PartialEq, Eq)]
 pub enum Sort {
     Procedure,
     Statement,
@@ -29,324 +26,220 @@ pub enum Ends {
     Within,
 }
 
-// The columns of the table of kinds, by kind.
-fn name_least(kind: usize) -> u8
-    requires { kind < 14 }
-    ensures { result ≡ get_or name_leasts kind 0 }
-{
-    if kind == 6 {
-        return 8;
-    }
-    0
+// What a kind encloses.
+#[derive(Clone, Copy)]
+pub enum Encloses {
+    Nothing,
+    Statements,
+    OneExpression,
+    ExpressionStatements,
+    TwoExpressions,
 }
 
-fn name_most(kind: usize) -> u8
-    requires { kind < 14 }
-    ensures { result ≡ get_or name_mosts kind 0 }
-{
-    if kind == 3 {
-        return 64;
+// The columns of the table of kinds.
+impl Kind {
+    pub fn sort(self) -> Sort
+        ensures { is_of (sort_of result) (number_of self) ≡ true }
+    {
+        match self {
+            Kind::Procedure => Sort::Procedure,
+            Kind::Constant | Kind::Variable | Kind::Binary | Kind::Unary => Sort::Expression,
+            _ => Sort::Statement,
+        }
     }
-    if kind == 6 {
-        return 64;
-    }
-    if kind == 8 {
-        return 64;
-    }
-    if kind == 10 {
-        return 64;
-    }
-    if kind == 11 {
-        return 7;
-    }
-    if kind == 12 {
-        return 1;
-    }
-    0
-}
 
-fn value_most(kind: usize) -> u32
-    requires { kind < 14 }
-    ensures { result ≡ get_or value_mosts kind 0 }
-{
-    if kind == 6 {
-        return 255;
+    fn encloses(self) -> Encloses
+        ensures { encloses_of result ≡ (kind_row (number_of self)).encloses }
+    {
+        match self {
+            Kind::Procedure => Encloses::Statements,
+            Kind::Set | Kind::Spawn | Kind::Unary | Kind::Guard => Encloses::OneExpression,
+            Kind::If | Kind::While => Encloses::ExpressionStatements,
+            Kind::Binary => Encloses::TwoExpressions,
+            _ => Encloses::Nothing,
+        }
     }
-    if kind == 9 {
-        return 4294967295;
+
+    fn name_fits(self, name: u8) -> bool
+        ensures { result ≡ (leb (kind_row (number_of self)).least name && leb name (kind_row (number_of self)).most) }
+    {
+        match self {
+            Kind::Set | Kind::Await | Kind::Variable => name <= 64,
+            Kind::Spawn => 8 <= name && name <= 64,
+            Kind::Binary => name <= 7,
+            Kind::Unary => name <= 1,
+            _ => name == 0,
+        }
     }
-    0
-}
 
-// What a kind encloses: 0 nothing, 1 statements, 2 an expression, 3 an expression and then statements, 4 two expressions.
-// Four bits for each kind in one number: a chain of tests would be compiled to a jump.
-fn code(kind: usize) -> u8
-    requires { kind < 14 }
-    ensures { result ≡ get_or codes kind 0 }
-{
-    ((0x22400002332010u64 >> (4 * kind)) % 16) as u8
-}
-
-// What the first record of a part encloses.
-fn encloses(part: &[u8]) -> u8
-    requires { (8 ≤ length part.now) × (kind_of part.now < 14) }
-    ensures { result ≡ code_of (enclosing part.now) }
-{
-    code(wide(part[0]))
-}
-
-fn between(x: u8, low: u8, high: u8) -> bool
-    ensures { result ≡ (leb low x && leb x high) }
-{
-    if x < low {
-        return false;
-    }
-    x <= high
-}
-
-// Kinds 2 to 8 first: most statements are of these.
-fn is_statement(kind: u8) -> bool
-    ensures { result ≡ is_of statement kind }
-{
-    if between(kind, 2, 8) {
-        return true;
-    }
-    kind == 13
-}
-
-fn is_of(sort: Sort, kind: u8) -> bool
-    ensures { result ≡ is_of (sort_of sort) kind }
-{
-    match sort {
-        Sort::Procedure => kind == 1,
-        Sort::Statement => is_statement(kind),
-        Sort::Expression => between(kind, 9, 12),
+    fn value_fits(self, value: u32) -> bool
+        ensures { result ≡ value_fits (kind_row (number_of self)).field (signed value) }
+    {
+        match self {
+            Kind::Spawn => value <= 255,
+            Kind::Constant => true,
+            _ => value == 0,
+        }
     }
 }
 
-fn ends_fit(ends: Ends, end: usize, len: usize) -> bool
-    ensures { result ≡ ends_fit (ends_of ends) end len }
-{
-    match ends {
-        Ends::AtEnd => end == len,
-        Ends::BeforeEnd => end < len,
-        Ends::Within => end <= len,
+impl Encloses {
+    // How many records follow at least where a record encloses this; or none.
+    fn span_fits(self, span: usize) -> bool
+        ensures { result ≡ span_fits (encloses_of self) span }
+    {
+        match self {
+            Encloses::Nothing => span == 0,
+            Encloses::Statements => true,
+            Encloses::OneExpression | Encloses::ExpressionStatements => 1 <= span,
+            Encloses::TwoExpressions => 2 <= span,
+        }
     }
 }
 
-// Rule 13 of a record, by its fields and the length of its part.
-fn span_right(kind: usize, span: usize, len: usize, ends: Ends) -> bool
-    requires { (kind < 14) × (span < 65536) }
-    ensures { (p : List ℕ) → kind ≡ kind_of p → span ≡ span_of p → len ≡ length p → result ≡ span_right (ends_of ends) p }
-{
-    if !ends_fit(ends, 8 + 8 * span, len) {
-        return false;
+impl Ends {
+    fn fit(self, end: usize, len: usize) -> bool
+        ensures { result ≡ ends_fit (ends_of self) end len }
+    {
+        match self {
+            Ends::AtEnd => end == len,
+            Ends::BeforeEnd => end < len,
+            Ends::Within => end <= len,
+        }
     }
-    let code = code(kind);
-    if code == 0 {
-        return span == 0;
-    }
-    wide(code / 2) <= span
 }
 
-// Rule 14.
-fn name_right(kind: usize, name: u8) -> bool
-    requires { kind < 14 }
-    ensures { (p : List ℕ) → kind ≡ kind_of p → name ≡ name_of p → result ≡ name_right p }
-{
-    between(name, name_least(kind), name_most(kind))
-}
-
-// Rule 15.
-fn value_right(kind: usize, value: u32) -> bool
-    requires { kind < 14 }
-    ensures { (p : List ℕ) → kind ≡ kind_of p → value ≡ word p 4 → result ≡ value_right p }
-{
-    value <= value_most(kind)
-}
-
-// The number of the first rule that a record with these fields breaks, 12 to 15, or 0. Numbers and not the part, so that they stay in registers.
-fn fields_fault(
-    kind: u8,
+// The kind of a record with these fields, or the first rule that it breaks. Numbers and not the part, so that they stay in registers.
+#[inline(always)]
+fn fields_kind(
+    number: u8,
     name: u8,
     span: usize,
     value: u32,
     len: usize,
     sort: Sort,
     ends: Ends,
-) -> u8
+) -> Result<Kind, Rule>
     requires { span < 65536 }
-    ensures { (p : List ℕ) → Fields p kind name span value len → result ≡ record_fault (sort_of sort) (ends_of ends) p }
+    ensures fault { (p : List ℕ) → Fields p number name span value len → fault_of result ≡ record_fault (sort_of sort) (ends_of ends) p }
+    ensures kind { IfOk result (λ kind. number ≡ number_of kind) }
 {
-    if !is_of(sort, kind) {
-        return 12;
+    let Ok(kind) = Kind::try_from(number) else {
+        return Err(Rule::Kind);
+    };
+    if kind.sort() != sort {
+        return Err(Rule::Kind);
     }
-    let k = wide(kind);
-    if !span_right(k, span, len, ends) {
-        return 13;
+    if !ends.fit(8 + 8 * span, len) || !kind.encloses().span_fits(span) {
+        return Err(Rule::Span);
     }
-    if !name_right(k, name) {
-        return 14;
+    if !kind.name_fits(name) {
+        return Err(Rule::Name);
     }
-    if value_right(k, value) { 0 } else { 15 }
+    if !kind.value_fits(value) {
+        return Err(Rule::Value);
+    }
+    Ok(kind)
 }
 
-// The number of the first rule that the first record of a part breaks, 12 to 15, or 0. Two functions with one caller each, so that both are
-// inlined: where an expression is due,
-fn expression_fault(part: &[u8], ends: Ends) -> u8
+// The kind of the first record of a part, or the first rule that it breaks.
+#[inline(always)]
+fn record_kind(part: &[u8], sort: Sort, ends: Ends) -> Result<Kind, Rule>
     requires { 8 ≤ length part.now }
-    ensures { result ≡ record_fault expression (ends_of ends) part.now }
+    ensures fault { fault_of result ≡ record_fault (sort_of sort) (ends_of ends) part.now }
+    ensures kind { IfOk result (λ kind. kind_of part.now ≡ number_of kind) }
 {
-    let span = span_of(part);
-    let value = word_of(part);
-    fields_fault(
+    fields_kind(
         part[0],
         part[1],
-        span,
-        value,
+        span_of(part),
+        word_of(part),
         part.len(),
-        Sort::Expression,
+        sort,
         ends,
     )
 }
 
-// and in a row.
-fn row_fault(part: &[u8], sort: Sort) -> u8
-    requires { 8 ≤ length part.now }
-    ensures { result ≡ record_fault (sort_of sort) within part.now }
-{
-    let span = span_of(part);
-    let value = word_of(part);
-    fields_fault(
-        part[0],
-        part[1],
-        span,
-        value,
-        part.len(),
-        sort,
-        Ends::Within,
-    )
-}
-
-// A fault as one number, so that it is returned in a register; 0 is none.
-fn fault_code(number: u8, at: usize) -> u32
-    requires { (0 < number) × (at ≤ 4096) }
-    ensures { verdict_in result ≡ fault number at }
-{
-    (number as u32) * 65536 + (at as u32)
-}
-
 // The expression that a part starts with, with so many levels left for it; at is its place in the table.
-fn check_expr(part: &[u8], at: usize, left: usize, ends: Ends) -> u32
+fn check_expr(part: &[u8], at: usize, left: usize, ends: Ends) -> Result<(), Refusal>
     requires { Part at part.now }
-    ensures { verdict_in result ≡ check_e left at (ends_of ends) part.now }
+    ensures { verdict_of result ≡ check_e left at (ends_of ends) part.now }
 {
-    let number = expression_fault(part, ends);
-    if number != 0 {
-        return fault_code(number, at);
-    }
+    let kind = match record_kind(part, Sort::Expression, ends) {
+        Ok(kind) => kind,
+        Err(rule) => return Err(rule.at(at)),
+    };
     if left == 0 {
-        return fault_code(16, at);
+        return Err(Rule::Depth.at(at));
     }
-    let kind = part[0];
-    if kind < 11 {
-        return 0;
+    match kind {
+        Kind::Unary => check_expr(enclosed(part), at + 1, left - 1, Ends::AtEnd),
+        Kind::Binary => {
+            let inner = enclosed(part);
+            check_expr(inner, at + 1, left - 1, Ends::BeforeEnd)?;
+            let next = at + 2 + span_of(inner);
+            check_expr(beyond(inner), next, left - 1, Ends::AtEnd)
+        }
+        _ => Ok(()),
     }
-    let inner = enclosed(part);
-    if kind == 12 {
-        return check_expr(inner, at + 1, left - 1, Ends::AtEnd);
-    }
-    let first = check_expr(inner, at + 1, left - 1, Ends::BeforeEnd);
-    if first != 0 {
-        return first;
-    }
-    let next = at + 2 + span_of(inner);
-    check_expr(beyond(inner), next, left - 1, Ends::AtEnd)
 }
 
-// The first record of a row, with the expression that it encloses if any.
-fn check_head(part: &[u8], sort: Sort, at: usize, left: usize) -> u32
+// The first record of a row, with the expression that it encloses if any: what it encloses.
+fn check_head(part: &[u8], sort: Sort, at: usize, left: usize) -> Result<Encloses, Refusal>
     requires { Part at part.now × OfRow (sort_of sort) }
-    ensures { verdict_in result ≡ head_of (sort_of sort) left at part.now }
+    ensures verdict { verdict_of result ≡ head_of (sort_of sort) left at part.now }
+    ensures encloses { IfOk result (λ e. encloses_of e ≡ enclosing part.now) }
 {
-    let number = row_fault(part, sort);
-    if number != 0 {
-        return fault_code(number, at);
-    }
+    let kind = match record_kind(part, sort, Ends::Within) {
+        Ok(kind) => kind,
+        Err(rule) => return Err(rule.at(at)),
+    };
     if left == 0 {
-        return fault_code(16, at);
+        return Err(Rule::Depth.at(at));
     }
-    let code = encloses(part);
-    if code < 2 {
-        return 0;
+    let encloses = kind.encloses();
+    match encloses {
+        Encloses::OneExpression => check_expr(enclosed(part), at + 1, left - 1, Ends::AtEnd)?,
+        Encloses::ExpressionStatements => {
+            check_expr(enclosed(part), at + 1, left - 1, Ends::Within)?
+        }
+        _ => {}
     }
-    if code == 2 {
-        return check_expr(enclosed(part), at + 1, left - 1, Ends::AtEnd);
-    }
-    check_expr(enclosed(part), at + 1, left - 1, Ends::Within)
-}
-
-// The statements that a record of a row encloses.
-fn body_of(part: &[u8]) -> &[u8]
-    requires { Parted part.now }
-    ensures { result.now ≡ body part.now }
-{
-    let code = encloses(part);
-    if code == 1 {
-        return enclosed(part);
-    }
-    if code == 3 {
-        return beyond(enclosed(part));
-    }
-    &part[0..0]
-}
-
-// The index of the first of them.
-fn body_at(part: &[u8], at: usize) -> usize
-    requires { Part at part.now × Parted part.now }
-    ensures { result ≡ body_at at part.now }
-{
-    let code = encloses(part);
-    if code == 1 {
-        return at + 1;
-    }
-    if code == 3 {
-        return at + 2 + span_of(enclosed(part));
-    }
-    at
+    Ok(encloses)
 }
 
 // A row of procedures or statements, with left levels for them.
-fn check_rows(part: &[u8], sort: Sort, at: usize, left: usize) -> u32
+fn check_rows(part: &[u8], sort: Sort, at: usize, left: usize) -> Result<(), Refusal>
     requires { Row at part.now × OfRow (sort_of sort) }
-    ensures { verdict_in result ≡ check_rows (sort_of sort) left at part.now }
+    ensures { verdict_of result ≡ check_rows (sort_of sort) left at part.now }
 {
     let mut off: usize = 0;
     let mut i = at;
+    // kept: the step to the next record is what this one encloses, once it is checked, which no range or library iterator says.
     while off < part.len() {
         let rest = from(part, off);
-        let head = check_head(rest, sort, i, left);
-        if head != 0 {
-            return head;
-        }
-        if encloses(rest) == 0 {
-            // The next record stands right here, whatever the span says: so the loop need not wait for it.
-            off += 8;
-            i += 1;
-        } else {
-            let body = body_of(rest);
-            if 0 < body.len() {
-                let inside = check_rows(body, Sort::Statement, body_at(rest, i), left - 1);
-                if inside != 0 {
-                    return inside;
-                }
+        match check_head(rest, sort, i, left)? {
+            Encloses::Nothing => {
+                // The next record stands right here, whatever the span says: so the loop need not wait for it.
+                off += 8;
+                i += 1;
+                continue;
             }
-            let span = span_of(rest);
-            off = off + 8 + 8 * span;
-            i = i + 1 + span;
+            Encloses::Statements => {
+                check_rows(enclosed(rest), Sort::Statement, i + 1, left - 1)?;
+            }
+            Encloses::ExpressionStatements => {
+                let test = enclosed(rest);
+                let next = i + 2 + span_of(test);
+                check_rows(beyond(test), Sort::Statement, next, left - 1)?;
+            }
+            _ => {}
         }
+        let span = span_of(rest);
+        off += 8 + 8 * span;
+        i += 1 + span;
     }
-    0
+    Ok(())
 }
 
 // How many records of a table are procedures.
@@ -354,25 +247,13 @@ fn procedures_in(table: &[u8]) -> usize
     requires { Row 0 table.now }
     ensures { result ≡ procedures (records table.now) table.now }
 {
-    let mut count: usize = 0;
-    let mut off: usize = 0;
-    while off < table.len() {
-        if table[off] == 1 {
+    let mut count = 0;
+    for record in table.chunks_exact(8) {
+        if kind_at(record, 0) == Some(Kind::Procedure) {
             count += 1;
         }
-        off += 8;
     }
     count
-}
-
-// The value of 32 bits without its sign.
-fn magnitude(word: u32) -> usize
-    ensures { result ≡ nat_abs (signed word) }
-{
-    if word < 2147483648 {
-        return word as usize;
-    }
-    4294967296 - word as usize
 }
 
 // Whether the first record of a part is a spawn of none of n procedures.
@@ -380,65 +261,48 @@ fn names_none(part: &[u8], n: usize) -> bool
     requires { 8 ≤ length part.now }
     ensures { result ≡ names_none n part.now }
 {
-    if part[0] != 6 {
-        return false;
-    }
-    n <= magnitude(word_of(part))
+    kind_at(part, 0) == Some(Kind::Spawn)
+        && n <= word_of(part).cast_signed().unsigned_abs() as usize
 }
 
 // The spawns of a table of n procedures.
-fn check_spawns(table: &[u8], n: usize) -> Verdict
+fn check_spawns(table: &[u8], n: usize) -> Result<(), Refusal>
     requires { Row 0 table.now }
     ensures { verdict_of result ≡ check_spawns (records table.now) n 0 table.now }
 {
-    let mut off: usize = 0;
-    let mut i: usize = 0;
-    while off < table.len() {
-        if names_none(from(table, off), n) {
-            return Verdict {
-                number: 17,
-                place: i as u32,
-            };
+    for (i, record) in table.chunks_exact(8).enumerate() {
+        if names_none(record, n) {
+            return Err(Rule::Procedure.at(i));
         }
-        off += 8;
-        i += 1;
     }
-    Verdict {
-        number: 0,
-        place: 0,
-    }
-}
-
-// A whole table, of any content and length.
-pub fn check_table(table: &[u8]) -> Verdict
-    ensures { verdict_of result ≡ check table.now }
-{
-    let len = table.len();
-    if !length_fits(len) {
-        return Verdict {
-            number: 11,
-            place: 0,
-        };
-    }
-    let rows = check_rows(table, Sort::Procedure, 0, 17);
-    let spawns = check_spawns(table, procedures_in(table));
-    if rows != 0 {
-        return Verdict {
-            number: rows / 65536,
-            place: rows % 65536,
-        };
-    }
-    spawns
+    Ok(())
 }
 
 fn length_fits(len: usize) -> bool
     ensures { result ≡ length_fits len }
 {
-    if len == 0 {
-        return false;
+    len != 0 && len % 8 == 0 && len <= 32768
+}
+
+// A table that is accepted.
+#[derive(Clone, Copy)]
+pub struct Accepted<'a> {
+    pub bytes: &'a [u8],
+    ghost fine: { check bytes.now ≡ fine },
+    ghost in_bytes: { Bytes bytes.now },
+}
+
+// A whole table, of any content and length.
+pub fn check_table(table: &[u8]) -> Result<Accepted, Refusal>
+    ensures verdict { verdict_of result ≡ check table.now }
+    ensures accepted { IfOk result (λ a. a.bytes.now ≡ table.now) }
+{
+    if !length_fits(table.len()) {
+        return Err(Rule::TableLength.at(0));
     }
-    if len % 8 != 0 {
-        return false;
-    }
-    len <= 32768
+    let rows = check_rows(table, Sort::Procedure, 0, 17);
+    let spawns = check_spawns(table, procedures_in(table));
+    rows?;
+    spawns?;
+    Ok(Accepted { bytes: table })
 }

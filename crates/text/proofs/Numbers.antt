@@ -1,14 +1,15 @@
 -- Numbers and values as text: how they are spelt, and their lengths.
 -- Assumes nothing.
 use Prim.Native.Nat.{ℕ, zero, suc, ◌+◌, ◌-◌, ◌*◌, ◌/◌, ◌%◌, ◌^◌, ◌≤◌, ◌<◌}
-use mathlib.Core.Path.{◌≡◌, refl, ap}
+use mathlib.Core.Path.{◌≡◌, refl, ap, ◌∙◌}
 use mathlib.Core.Bool.{Bool, true, false, cond}
-use mathlib.Core.List.{List, [], ◌∷◌, ◌++◌}
+use mathlib.Core.List.{List, [], ◌∷◌, ◌++◌, append_assoc, append-nil}
+use Rattle.std.specs.Fmt as F
 use native.Mathlib.Omega.{arith}
 use native.Mathlib.Nat.{pow-suc}
 use lib.Dec.{ltb}
 use lib.ListN.{length, length-append}
-use borrow.Author.Tests.{lt-ltb, le-ltb, ltb-true, ltb-false}
+use borrow.Author.Tests.{lt-ltb, le-ltb, ltb-true, ltb-false, ne_eqb}
 use Rattle.rules.specs.Fields.{signed}
 use Rattle.rules.specs.Print.{bytes, digits, decimal, signed_decimal, spaced, spaced_value}
 
@@ -48,6 +49,33 @@ decimal-length (suc k) n h = go (ltb n 10) refl (λ l. decimal-length k (n / 10)
         let p : n < 10 ^ suc k * 10 = rw (← pow-suc 10 (suc k)) h in
         rw (decimal_more n (ltb-false n 10 e)) (omega (arith, length-append (decimal (n / 10)) ((48 + n % 10) ∷ []), ih (omega arith)))
 
+-- the digits that the standard library writes are these
+onto : (k n : ℕ) (rest : List ℕ) → n < 2 ^ suc k → F.digits_onto (suc k) 10 false n rest ≡ decimal n ++ rest
+onto zero n rest h =
+    let e : n / 10 ≡ 0 = omega arith in
+    let m : n % 10 ≡ n = omega arith in
+    rw (e, m, decimal-one n (omega arith), lt-ltb n 10 (omega arith)) refl
+onto (suc k) n rest h = go (ltb n 10) refl (λ l. onto k (n / 10) ((48 + n % 10) ∷ rest) l)
+  where
+    go : (b : Bool) → ltb n 10 ≡ b → (n / 10 < 2 ^ suc k → F.digits_onto (suc k) 10 false (n / 10) ((48 + n % 10) ∷ rest) ≡ decimal (n / 10) ++ ((48 + n % 10) ∷ rest))
+        → F.digits_onto (suc (suc k)) 10 false n rest ≡ decimal n ++ rest
+    go true e ih =
+        let l : n < 10 = ltb-true n 10 e in
+        let q : n / 10 ≡ 0 = omega arith in
+        let m : n % 10 ≡ n = omega arith in
+        rw (q, m, decimal-one n l, lt-ltb n 10 l) refl
+    go false e ih =
+        let l : 10 ≤ n = ltb-false n 10 e in
+        let p : n < 2 ^ suc k * 2 = rw (← pow-suc 2 (suc k)) h in
+        rw (ne_eqb (n / 10) 0 (λ z. absurd (omega arith)), lt-ltb (n % 10) 10 (omega arith), ih (omega arith), decimal_more n l, append_assoc (decimal (n / 10)) ((48 + n % 10) ∷ []) rest) refl
+
+decimal-is : (n : ℕ) → n < 4294967296 → F.decimal n ≡ decimal n
+unfolding F.digits
+decimal-is n h = onto 63 n [] (omega arith) ∙ append-nil (decimal n)
+
+pub decimal-text : (n : ℕ) → n < 4294967296 → 32 ∷ F.decimal n ≡ spaced n
+decimal-text n h = ap (λ (l : List ℕ). 32 ∷ l) (decimal-is n h)
+
 -- ---- values
 
 pub value_low : (w : ℕ) → w < 2147483648 → spaced_value (signed w) ≡ spaced w
@@ -68,3 +96,12 @@ value-length w h = go (ltb w 2147483648) refl
     go false e =
         let l = ltb-false w 2147483648 e in
         omega (arith, ap length (value_high w l h), decimal-length 9 (4294967295 - w + 1) (omega arith))
+
+-- a value as the standard library writes it
+pub signed-text : (w : ℕ) → w < 4294967296 → 32 ∷ F.signed_decimal (signed w) ≡ spaced_value (signed w)
+unfolding signed_decimal
+signed-text w h = go (ltb w 2147483648) refl
+  where
+    go : (b : Bool) → ltb w 2147483648 ≡ b → 32 ∷ F.signed_decimal (signed w) ≡ spaced_value (signed w)
+    go true e = rw (e) (decimal-text w h)
+    go false e = let l = ltb-false w 2147483648 e in rw (e) (ap (λ (l : List ℕ). 32 ∷ 45 ∷ l) (decimal-is (suc (4294967296 - suc w)) (omega arith)))

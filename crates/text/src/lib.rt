@@ -2,25 +2,26 @@
 
 #![tactic(auto)]
 
-ghost use Rattle.std.specs.Prelude.{[], ◌∷◌, ◌+◌, ◌<◌, ◌≤◌, length};
+ghost use Rattle.std.specs.Prelude.{◌∷◌, ◌+◌, ◌≤◌, length};
 ghost use Rattle.rules.specs.Fields.{signed};
-ghost use Rattle.rules.specs.Print.{kind_word, ending_word, decimal, spaced, spaced_value};
+ghost use Rattle.rules.specs.Print.{kind_word, ending_word, spaced, spaced_value};
 ghost use Rattle.text.specs.Puts.{Puts};
 
-// Each `put` writes a text from the byte `at` on and gives the index behind it.
+use itoa::{Buffer, Integer};
+use values::signed;
+
+// Each `put` writes a text from the byte `at` on and gives the index behind it. (kept: a lent buffer and an index. It is not on the heap, and of `write!` the
+// library says what it wrote only where it succeeds, so that no text could be promised.)
 pub fn put_word(b: &mut [u8], at: usize, word: &[u8]) -> usize
     requires { at + length word.now ≤ length b.old }
     ensures { Puts b.old at word.now result b.new }
 {
-    let mut i: usize = 0;
-    while i < word.len() {
-        b[at + i] = word[i];
-        i += 1;
-    }
-    at + i
+    let end = at + word.len();
+    b[at..end].copy_from_slice(word);
+    end
 }
 
-// The word of a log record's kind.
+// The word of a log record's kind. (kept: a number, as it stands in the log; for one that is no kind's the definition has a word too.)
 #[tactic(auto, unfolding(rules::specs::Print::kind_word))]
 pub fn put_kind(b: &mut [u8], at: usize, kind: u8) -> usize
     requires { at + 7 ≤ length b.old }
@@ -37,7 +38,7 @@ pub fn put_kind(b: &mut [u8], at: usize, kind: u8) -> usize
     }
 }
 
-// The word of a run's ending.
+// The word of a run's ending. (kept: a number, as in the answer that C callers get.)
 #[tactic(auto, unfolding(rules::specs::Print::ending_word))]
 pub fn put_ending(b: &mut [u8], at: usize, number: u32) -> usize
     requires { at + 8 ≤ length b.old }
@@ -54,32 +55,21 @@ pub fn put_ending(b: &mut [u8], at: usize, number: u32) -> usize
     }
 }
 
-fn put_digit(b: &mut [u8], at: usize, d: u32) -> usize
-    requires { (d < 10) × (at < length b.old) }
-    ensures { Puts b.old at ((48 + d) ∷ []) result b.new }
+// A space, and a number of any width in decimal.
+fn put_spaced<I: Integer>(b: &mut [u8], at: usize, n: I) -> usize
+    requires { at + 1 + length (I.text n) ≤ length b.old }
+    ensures { Puts b.old at (32 ∷ I.text n) result b.new }
 {
-    b[at] = (48 + d) as u8;
-    at + 1
-}
-
-// The digits before the last, then the last.
-fn put_decimal(b: &mut [u8], at: usize, n: u32) -> usize
-    requires { at + length (decimal n) ≤ length b.old }
-    ensures { Puts b.old at (decimal n) result b.new }
-{
-    if n < 10 {
-        return put_digit(b, at, n);
-    }
-    let last = put_decimal(b, at, n / 10);
-    put_digit(b, last, n % 10)
+    let first = put_word(b, at, b" ");
+    let mut digits = Buffer::new();
+    put_word(b, first, digits.format(n).as_bytes())
 }
 
 pub fn put_number(b: &mut [u8], at: usize, n: u32) -> usize
     requires { at + length (spaced n) ≤ length b.old }
     ensures { Puts b.old at (spaced n) result b.new }
 {
-    let first = put_word(b, at, b" ");
-    put_decimal(b, first, n)
+    put_spaced(b, at, n)
 }
 
 // The value that these 32 bits spell.
@@ -87,9 +77,5 @@ pub fn put_value(b: &mut [u8], at: usize, w: u32) -> usize
     requires { at + length (spaced_value (signed w)) ≤ length b.old }
     ensures { Puts b.old at (spaced_value (signed w)) result b.new }
 {
-    if w < 2147483648 {
-        return put_number(b, at, w);
-    }
-    let first = put_word(b, at, b" -");
-    put_decimal(b, first, 4294967295 - w + 1)
+    put_spaced(b, at, signed(w))
 }

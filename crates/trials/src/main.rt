@@ -9,30 +9,40 @@
 ghost use Rattle.std.specs.Prelude.{◌≤◌, length, IfOk};
 
 use batch::check_all;
+use input::read_full;
 use print::print_recipe;
 use runner::{run, start};
 use std::io;
 use std::io::Read;
-use table::record::{span_of, wide, word_of};
+use table::record::{span_of, word_of};
 use why::why_stuck;
 
 const MOST_CASES: u32 = 100000;
 
 const MOST_CALLS: u32 = 100000;
 
-// Reads until the buffer is full or the input ends, and tells how many bytes that gave.
-fn read_full(input: &mut impl Read, buf: &mut [u8]) -> io::Result<usize>
-    ensures { IfOk result (λ n. n ≤ length buf.new) }
-{
-    let mut done: usize = 0;
-    while done < buf.len() {
-        let n = input.read(&mut buf[done..])?;
-        if n == 0 {
-            break;
+// What a case calls.
+#[derive(Clone, Copy)]
+enum Call {
+    Start,
+    Run,
+    RunOn,
+    Print,
+    WhyStuck,
+    CheckAll,
+}
+
+impl From<u8> for Call {
+    fn from(number: u8) -> Self {
+        match number {
+            0 => Call::Start,
+            1 => Call::Run,
+            3 => Call::Print,
+            4 => Call::WhyStuck,
+            5 => Call::CheckAll,
+            _ => Call::RunOn,
         }
-        done += n;
     }
-    Ok(done)
 }
 
 // Fills the buffer up to its length.
@@ -42,10 +52,8 @@ fn repeat(buf: &mut [u8], given: usize, len: usize)
     if given < 8 {
         return;
     }
-    let mut i = given;
-    while i < len {
+    for i in given..len {
         buf[i] = buf[i - 8];
-        i += 1;
     }
 }
 
@@ -57,10 +65,7 @@ fn read_buffer(input: &mut impl Read, buf: &mut [u8]) -> io::Result<usize>
     read_full(input, &mut head)?;
     let given = span_of(&head);
     let len = word_of(&head) as usize;
-    if buf.len() < len {
-        return Ok(0);
-    }
-    if len < given {
+    if buf.len() < len || len < given {
         return Ok(0);
     }
     read_full(input, &mut buf[..given])?;
@@ -71,10 +76,8 @@ fn read_buffer(input: &mut impl Read, buf: &mut [u8]) -> io::Result<usize>
 // The bytes as the digits of a number to the base 257, reduced by a prime.
 fn checksum(bytes: &[u8]) -> u64 {
     let mut sum: u64 = 1;
-    let mut i: usize = 0;
-    while i < bytes.len() {
-        sum = (257 * sum + wide(bytes[i]) as u64) % 4294967291;
-        i += 1;
+    for byte in bytes {
+        sum = (257 * sum + u64::from(*byte)) % 4294967291;
     }
     sum
 }
@@ -92,8 +95,8 @@ fn print_last(rt: &impl Print, bytes: &[u8]) -> io::Result<()> {
 
 fn try_start(rt: &impl Print, table: &[u8], state: &mut [u8]) -> io::Result<()> {
     let s = start(table, state);
-    print(rt, s.number as u64)?;
-    print(rt, s.place as u64)?;
+    print(rt, u64::from(s.number))?;
+    print(rt, u64::from(s.place))?;
     print_last(rt, state)
 }
 
@@ -105,21 +108,17 @@ fn try_run(
     log: &mut [u8],
 ) -> io::Result<()> {
     let a = run(table, state, budget, log);
-    print(rt, a.number as u64)?;
-    print(rt, a.steps as u64)?;
-    print(rt, a.records as u64)?;
-    print(rt, a.place as u64)?;
+    print(rt, u64::from(a.number))?;
+    print(rt, u64::from(a.steps))?;
+    print(rt, u64::from(a.records))?;
+    print(rt, u64::from(a.place))?;
     print(rt, checksum(state))?;
     print_last(rt, log)
 }
 
 // Paused, or the log is full.
 fn goes_on(number: u32) -> bool {
-    match number {
-        1 => true,
-        5 => true,
-        _ => false,
-    }
+    matches!(number, 1 | 5)
 }
 
 // Goes on where a call pauses or its log is full, and adds the steps up.
@@ -130,26 +129,27 @@ fn try_on(
     budget: u32,
     log: &mut [u8],
 ) -> io::Result<()> {
-    let mut calls = MOST_CALLS;
     let mut steps: u64 = 0;
     let mut number: u32 = 1;
-    while calls > 0 && goes_on(number) {
+    for call in 0..MOST_CALLS {
         let a = run(table, state, budget, log);
         number = a.number;
-        steps += a.steps as u64;
-        calls -= 1;
+        steps += u64::from(a.steps);
+        if !goes_on(number) {
+            break;
+        }
     }
-    print(rt, number as u64)?;
+    print(rt, u64::from(number))?;
     print(rt, steps)?;
     print_last(rt, state)
 }
 
 fn try_why(rt: &impl Print, table: &[u8], state: &[u8], chain: &mut [u8]) -> io::Result<()> {
     let e = why_stuck(table, state, chain);
-    print(rt, e.number as u64)?;
-    print(rt, e.count as u64)?;
-    print(rt, e.end as u64)?;
-    print(rt, e.place as u64)?;
+    print(rt, u64::from(e.number))?;
+    print(rt, u64::from(e.count))?;
+    print(rt, u64::from(e.end))?;
+    print(rt, u64::from(e.place))?;
     print_last(rt, chain)
 }
 
@@ -159,8 +159,11 @@ fn try_batch(
     lengths: &[u8],
     outcomes: &mut [u8],
 ) -> io::Result<()> {
-    let number = check_all(recipes, lengths, outcomes);
-    print(rt, number as u64)?;
+    let number = match check_all(recipes, lengths, outcomes) {
+        Ok(()) => 0,
+        Err(no_batch) => no_batch.into(),
+    };
+    print(rt, u64::from(number))?;
     print_last(rt, outcomes)
 }
 
@@ -172,29 +175,26 @@ fn try_print(rt: &impl Print, table: &[u8]) -> io::Result<()> {
     print_last(rt, &out[..n])
 }
 
-fn try_case(rt: &impl Print, input: &mut impl Read, what: u8, budget: u32) -> io::Result<()> {
+fn try_case(rt: &impl Print, input: &mut impl Read, call: Call, budget: u32) -> io::Result<()> {
     let mut first = [0u8; 65536];
     let mut second = [0u8; 4096];
     let mut third = [0u8; 4096];
     let f = read_buffer(input, &mut first)?;
-    if what == 3 {
+    if let Call::Print = call {
         return try_print(rt, &first[..f]);
     }
     let s = read_buffer(input, &mut second)?;
-    if what == 0 {
+    if let Call::Start = call {
         return try_start(rt, &first[..f], &mut second[..s]);
     }
     let t = read_buffer(input, &mut third)?;
-    if what == 1 {
-        return try_run(rt, &first[..f], &mut second[..s], budget, &mut third[..t]);
+    let (table, state, log) = (&first[..f], &mut second[..s], &mut third[..t]);
+    match call {
+        Call::Run => try_run(rt, table, state, budget, log),
+        Call::WhyStuck => try_why(rt, table, state, log),
+        Call::CheckAll => try_batch(rt, table, state, log),
+        _ => try_on(rt, table, state, budget, log),
     }
-    if what == 4 {
-        return try_why(rt, &first[..f], &second[..s], &mut third[..t]);
-    }
-    if what == 5 {
-        return try_batch(rt, &first[..f], &second[..s], &mut third[..t]);
-    }
-    try_on(rt, &first[..f], &mut second[..s], budget, &mut third[..t])
 }
 
 // Whether there was another case.
@@ -204,15 +204,16 @@ fn next(rt: &impl Print, input: &mut impl Read) -> io::Result<bool> {
     if got < 8 {
         return Ok(false);
     }
-    try_case(rt, input, head[0], word_of(&head))?;
+    try_case(rt, input, head[0].into(), word_of(&head))?;
     Ok(true)
 }
 
 fn main(rt: HostRuntime) -> io::Result<()> {
     let mut input = rt.stdin();
-    let mut turns = MOST_CASES;
-    while turns > 0 && next(&rt, &mut input)? {
-        turns -= 1;
+    for _ in 0..MOST_CASES {
+        if !next(&rt, &mut input)? {
+            break;
+        }
     }
     Ok(())
 }

@@ -1,4 +1,3 @@
 pub mod Range
 pub mod Zero
 pub mod Exact
-pub mod Twos

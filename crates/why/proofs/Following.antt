@@ -6,14 +6,16 @@ use mathlib.Core.Bool.{true, false}
 use mathlib.Core.Option.{Option, some}
 use mathlib.Core.List.{List, [], ◌∷◌, ◌++◌}
 use native.Mathlib.Omega.{arith}
+use Rattle.std.specs.Prelude.{Result}
 use Rattle.rules.specs.Recipe.{Recipe}
 use Rattle.rules.specs.State.{Task, State}
 use Rattle.rules.specs.Scheduler.{readiness}
 use Rattle.rules.specs.Steps.{recipes}
 use Rattle.rules.specs.Why.{named_earlier, Chain, chain, among, behind, follow}
 use Rattle.rules.proofs.Why.Holders.{follow-named}
+use Rattle.state.specs.declared.Queue.{Queue}
 use Rattle.state.specs.View.{queue_of}
-use Rattle.why.specs.declared.follow.Holder.{Holder}
+use Rattle.why.specs.declared.follow.End.{End}
 use Rattle.why.specs.Follow.{goes_on, Holds}
 
 module _ (r : Recipe) (c : State) (n queued : ℕ) (ns : List ℕ) (t : Task ℕ) (few : n ≤ queued) (y : Option Chain) (at : follow (recipes r) (suc queued - n) c ns t ≡ y) where
@@ -33,9 +35,9 @@ module _ (r : Recipe) (c : State) (n queued : ℕ) (ns : List ℕ) (t : Task ℕ
   turn new = rw new refl
 
   -- it was not: what holds it
-  pub leads : (queue : List ℕ) (front : ℕ) (h : Holder) → among t.number ns ≡ false → c.queue ≡ queue_of queue front queued → Holds queue front queued (readiness (recipes r) c t) h
-      → y ≡ goes_on queue front (λ u. follow (recipes r) (queued - n) c named u) named h
-  leads queue front h new is held = sym one_more ∙ turn new ∙ held.goes_on_holds r (λ u. follow (recipes r) (queued - n) c named u) c named is
+  pub leads : (q : Queue) (h : Result ℕ End) → among t.number ns ≡ false → c.queue ≡ queue_of q → Holds q (readiness (recipes r) c t) h
+      → y ≡ goes_on q (λ u. follow (recipes r) (queued - n) c named u) named h
+  leads q h new is held = sym one_more ∙ turn new ∙ held.goes_on_holds r (λ u. follow (recipes r) (queued - n) c named u) c named is
 
 -- where the chain is not at its end, there is more to come
 pub more_left : (r : Recipe) (c : State) (n queued : ℕ) (ns : List ℕ) (t : Task ℕ) (x : Chain) → n ≤ queued → follow (recipes r) (queued - n) c ns t ≡ some x → suc n ≤ queued

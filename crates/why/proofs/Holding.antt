@@ -1,66 +1,98 @@
 -- What holds a task that waits for a number: the queued task of that number, by its index.
 -- Assumes nothing.
-use Prim.Native.Nat.{ℕ, suc, ◌<◌}
-use mathlib.Core.Path.{◌≡◌, refl, sym, ap, ◌∙◌}
+use Prim.Native.Nat.{ℕ, suc, ◌≤◌, ◌<◌}
+use mathlib.Core.Path.{◌≡◌, refl, sym, ap, ◌∙◌, subst, subst⁻¹}
 use mathlib.Core.Bool.{Bool, true, false, cond}
 use mathlib.Core.Option.{none, some}
 use mathlib.Core.List.{List, [], ◌∷◌}
 use native.Mathlib.Omega.{arith}
+use lib.Dec.{ltb}
 use lib.IntN.{ℤ}
 use lib.ListN.{length, get_or}
+use borrow.Author.Tests.{ltb-true, ltb-false, le-ltb, lt-ltb}
+use Rattle.std.specs.Prelude.{Option, None, Some, Result, Ok, Err}
+use Rattle.std.specs.Option.{ok_or}
 use Rattle.rules.specs.Recipe.{Recipe}
 use Rattle.rules.specs.State.{Task}
 use Rattle.rules.specs.Scheduler.{waits_for}
 use Rattle.rules.specs.Steps.{recipes}
 use Rattle.rules.specs.Why.{is_number, holder, go_on}
 use Rattle.rules.proofs.Lists.{length-tab, get_or-tab}
+use Rattle.state.specs.declared.Queue.{Queue}
 use Rattle.state.specs.View.{entry, queue_of}
-use Rattle.idle.proofs.Turning.{ahead-length}
-use Rattle.why.specs.declared.follow.Holder.TheVariants as H
+use Rattle.ready.specs.Ready.{ahead}
+use Rattle.ready.proofs.Queue.{ahead_all, ahead_at}
+use Rattle.why.specs.declared.follow.End.TheVariants as E
 use Rattle.why.specs.Follow.{of_number, index_in, Holds}
 
 module _ (r : Recipe) (z : ℤ) where
-  holder_at : (q : List (Task ℕ)) (d : Task ℕ) → index_in z q < length q → holder (recipes r) z q ≡ some (get_or q (index_in z q) d)
+  abbrev before : List (Task ℕ) → ℕ
+  before q = ahead (of_number z) q
+
+  holder_at : (q : List (Task ℕ)) (d : Task ℕ) → before q < length q → holder (recipes r) z q ≡ some (get_or q (before q) d)
   holder_at [] d h = absurd (omega arith)
   holder_at (t ∷ q) d h = go (is_number z t.number) h (λ g. holder_at q d g)
     where
-      go : (b : Bool) → cond b 0 (suc (index_in z q)) < suc (length q) → (index_in z q < length q → holder (recipes r) z q ≡ some (get_or q (index_in z q) d))
-          → cond b (some t) (holder (recipes r) z q) ≡ some (get_or (t ∷ q) (cond b 0 (suc (index_in z q))) d)
+      go : (b : Bool) → cond b 0 (suc (before q)) < suc (length q) → (before q < length q → holder (recipes r) z q ≡ some (get_or q (before q) d))
+          → cond b (some t) (holder (recipes r) z q) ≡ some (get_or (t ∷ q) (cond b 0 (suc (before q))) d)
       go true h ih = refl
       go false h ih = ih (omega arith)
 
-  holder_none : (q : List (Task ℕ)) → index_in z q ≡ length q → holder (recipes r) z q ≡ none
+  holder_none : (q : List (Task ℕ)) → length q ≤ before q → holder (recipes r) z q ≡ none
   holder_none [] h = refl
   holder_none (t ∷ q) h = go (is_number z t.number) h (λ g. holder_none q g)
     where
-      go : (b : Bool) → cond b 0 (suc (index_in z q)) ≡ suc (length q) → (index_in z q ≡ length q → holder (recipes r) z q ≡ none) → cond b (some t) (holder (recipes r) z q) ≡ none
+      go : (b : Bool) → suc (length q) ≤ cond b 0 (suc (before q)) → (length q ≤ before q → holder (recipes r) z q ≡ none) → cond b (some t) (holder (recipes r) z q) ≡ none
       go true h ih = absurd (omega arith)
       go false h ih = ih (omega arith)
 
-module _ (queue : List ℕ) (front queued : ℕ) (z : ℤ) where
-  pub held_at : (i : ℕ) → i ≡ index_in z (queue_of queue front queued) → i < queued → Holds queue front queued (waits_for z) (H.Task i)
+module _ (q : Queue) (z : ℤ) where
+  -- the task of this number, as index_in finds it
+  pub found_at : (i : ℕ) → i < q.len → ((j : ℕ) → j < i → of_number z (entry q j) ≡ false) → of_number z (entry q i) ≡ true → Some i ≡ index_in z (queue_of q)
+  unfolding queue_of
+  found_at i h before here =
+      let e = ahead_at (of_number z) (entry q) q.len i h before here in
+      rw (e, length-tab (entry q) q.len, lt-ltb i q.len h) refl
+
+  pub found_none : ((j : ℕ) → j < q.len → of_number z (entry q j) ≡ false) → None ≡ index_in z (queue_of q)
+  unfolding queue_of
+  found_none before =
+      let e = ahead_all (of_number z) (entry q) q.len before in
+      rw (e, length-tab (entry q) q.len, le-ltb q.len q.len (omega arith)) refl
+
+  -- where the index is known, what holds a task
+  held_at : (i : ℕ) → ahead (of_number z) (queue_of q) ≡ i → i < q.len → Holds q (waits_for z) (Ok i)
   unfolding queue_of
   held_at i e h =
       record {
         within = h;
         goes_on_holds = λ r further c ns s.
-            let f = entry queue front in
-            let at = holder_at r z (queue_of queue front queued) (f i) (omega (arith, length-tab f queued)) in
-            let is = ap (λ (k : ℕ). get_or (queue_of queue front queued) k (f i)) (sym e) ∙ get_or-tab f queued i (f i) h in
+            let f = entry q in
+            let at = holder_at r z (queue_of q) (f i) (omega (arith, length-tab f q.len)) in
+            let is = ap (λ (k : ℕ). get_or (queue_of q) k (f i)) e ∙ get_or-tab f q.len i (f i) h in
             ap (λ (q : List (Task ℕ)). go_on (recipes r) further ns (holder (recipes r) z q)) s ∙ ap (go_on (recipes r) further ns) (at ∙ ap some is);
       }
 
-  -- an index that is not that of no task is within the queue
-  pub index_below : (i : ℕ) → i ≡ index_in z (queue_of queue front queued) → ¬ (i ≡ queued) → i < queued
+  held_never : q.len ≤ ahead (of_number z) (queue_of q) → Holds q (waits_for z) (Err E.NeverIssued)
   unfolding queue_of
-  index_below i e h = omega (arith, ahead-length (of_number z) (queue_of queue front queued), length-tab (entry queue front) queued)
-
-  pub held_never : queued ≡ index_in z (queue_of queue front queued) → Holds queue front queued (waits_for z) H.NeverIssued
-  unfolding queue_of
-  held_never e =
+  held_never h =
       record {
         within = tt;
         goes_on_holds = λ r further c ns s.
             ap (λ (q : List (Task ℕ)). go_on (recipes r) further ns (holder (recipes r) z q)) s
-            ∙ ap (go_on (recipes r) further ns) (holder_none r z (queue_of queue front queued) (omega (arith, length-tab (entry queue front) queued)));
+            ∙ ap (go_on (recipes r) further ns) (holder_none r z (queue_of q) (omega (arith, length-tab (entry q) q.len)));
       }
+
+  -- and where it is, if it is anywhere
+  pub held_by_index : (o : Option ℕ) → o ≡ index_in z (queue_of q) → Holds q (waits_for z) (ok_or o E.NeverIssued)
+  unfolding queue_of
+  held_by_index o e = go (ltb (ahead (of_number z) (queue_of q)) (length (queue_of q))) refl e
+    where
+      go : (b : Bool) → ltb (ahead (of_number z) (queue_of q)) (length (queue_of q)) ≡ b → o ≡ cond b (Some (ahead (of_number z) (queue_of q))) None
+          → Holds q (waits_for z) (ok_or o E.NeverIssued)
+      go true l f =
+          let h = ltb-true _ _ l in
+          subst⁻¹ (λ (o : Option ℕ). Holds q (waits_for z) (ok_or o E.NeverIssued)) f (held_at _ refl (omega (arith, length-tab (entry q) q.len)))
+      go false l f =
+          let h = ltb-false _ _ l in
+          subst⁻¹ (λ (o : Option ℕ). Holds q (waits_for z) (ok_or o E.NeverIssued)) f (held_never (omega (arith, length-tab (entry q) q.len)))

@@ -1,57 +1,46 @@
 -- Numbers: the one that a value is, and those named so far.
 -- Assumes nothing.
-use Prim.Native.Nat.{ℕ, zero, suc, ◌+◌, ◌*◌, ◌≤◌, ◌<◌}
+use Prim.Native.Nat.{ℕ, ◌+◌, ◌*◌, ◌≤◌, ◌<◌}
 use mathlib.Core.Path.{◌≡◌, refl, sym, ap, ap₂, ◌∙◌}
-use mathlib.Core.Bool.{true, false, true≢false}
+use mathlib.Core.Bool.{Bool, true, false, ◌||◌}
 use mathlib.Core.List.{List, [], ◌∷◌, ◌++◌}
+use mathlib.Core.Logic.{dite}
+use native.Mathlib.Decide.{ℕ_discrete}
 use native.Mathlib.Omega.{arith}
+use native.Mathlib.Nat.{zero-add}
 use native.Mathlib.Numerals.{add-one}
-use lib.Dec.{eqb}
+use lib.Dec.{eqb, ltb}
 use lib.IntN.{ℤ, pos, negsuc}
 use lib.ListN.{length, get_or, take, drop, length-append, length-drop}
 use lib.Seq.{take-suc, take_at, length-take-le, drop-append-add, drop-drop, sets, sets-eq}
-use lib.Signed.{lt_z}
-use borrow.Author.Tests.{ltb-true, lt-ltb}
+use borrow.Author.Tests.{lt-ltb, eq-eqb, ne_eqb}
+use Rattle.std.specs.Prelude.{None, Some, nat_eq}
+use Rattle.std.specs.List.{list_any}
 use Rattle.rules.specs.Demand.{times}
 use Rattle.rules.specs.Fields.{bytes2}
-use Rattle.rules.specs.Scheduler.{is}
 use Rattle.rules.specs.Why.{among, is_number, halves}
-use Rattle.rules.proofs.Steps.{is-other}
-use Rattle.rules.proofs.Why.Named.{is_self}
 use Rattle.rules.proofs.Why.{halves-length}
 use Rattle.ready.specs.Ready.{natural}
 
 -- ---- the number that a value is
 
--- a negative value is none
-pub negative : (z : ℤ) (n : ℕ) → lt_z z (pos 0) ≡ true → is_number z n ≡ false
-negative (pos m) n h = absurd (omega (arith, ltb-true m 0 h))
-negative (negsuc m) n h = refl
+-- a value that is no number
+pub no_number : (z : ℤ) (n : ℕ) → natural z ≡ None → is_number z n ≡ false
+no_number (pos m) n h = cc
+no_number (negsuc m) n h = refl
 
-pub number_is : (z : ℤ) (m n : ℕ) → lt_z z (pos 0) ≡ false → m ≡ natural z → is_number z n ≡ eqb m n
-number_is (pos k) m n h e = rw e refl
-number_is (negsuc k) m n h e = absurd (true≢false h)
+pub number_is : (z : ℤ) (m n : ℕ) → natural z ≡ Some m → is_number z n ≡ eqb m n
+number_is (pos k) m n h = let e : k ≡ m = cc in rw e refl
+number_is (negsuc k) m n h = cc
 
 -- ---- the numbers named so far
 
-module _ (n : ℕ) where
-  times_at : (l : List ℕ) (k i : ℕ) → i < k → k ≤ length l → get_or l i 0 ≡ n → 1 ≤ times n (take k l)
-  times_at [] k i h g e = absurd (omega arith)
-  times_at (x ∷ l) zero i h g e = absurd (omega arith)
-  times_at (x ∷ l) (suc k) zero h g e = let same : is (eqb n x) ≡ 1 = rw e (is_self n) in omega arith
-  times_at (x ∷ l) (suc k) (suc i) h g e = omega (arith, times_at l k i (omega arith) (omega arith) e)
-
-  no_times : (l : List ℕ) (k : ℕ) → k ≤ length l → ((i : ℕ) → i < k → ¬ (get_or l i 0 ≡ n)) → times n (take k l) ≡ 0
-  no_times l zero g h = refl
-  no_times [] (suc k) g h = absurd (omega arith)
-  no_times (x ∷ l) (suc k) g h = omega (arith, is-other n x (λ z. h 0 (omega arith) (sym z)), no_times l k (omega arith) (λ i m. h (suc i) (omega arith)))
-
-  -- it is one of the first k, or none of them
-  pub named_at : (l : List ℕ) (k i : ℕ) → i < k → k ≤ length l → get_or l i 0 ≡ n → true ≡ among n (take k l)
-  named_at l k i h g e = sym (lt-ltb 0 (times n (take k l)) (times_at l k i h g e))
-
-  pub unnamed : (l : List ℕ) (k : ℕ) → k ≤ length l → ((i : ℕ) → i < k → ¬ (get_or l i 0 ≡ n)) → false ≡ among n (take k l)
-  unnamed l k g h = rw (no_times l k g h) refl
+pub among_is : (n : ℕ) (ns : List ℕ) → list_any (λ y. nat_eq y n) ns ≡ among n ns
+among_is n [] = refl
+among_is n (x ∷ ns) =
+    dite (ℕ_discrete x n)
+    (λ e. rw (eq-eqb x n e, eq-eqb n x (sym e)) (sym (lt-ltb 0 _ (omega arith))))
+    (λ h. rw (ne_eqb x n h, ne_eqb n x (λ e. h (sym e)), zero-add) (among_is n ns))
 
 -- ---- their bytes
 

@@ -1,13 +1,13 @@
-use Prim.Native.Nat.{◌*◌, ◌-◌, ◌≤◌}
-use mathlib.Core.Path.{◌≡◌}
-use lib.ListN.{length, take}
-use Rattle.rules.specs.State.{joined}
-use Rattle.rules.specs.Batch.{count, total, recipe_at, outcome_bytes}
+use Rattle.std.specs.Iterator.Adapters.{enumerate_source, enumerate_count}
+use Rattle.std.specs.Slice.Iter.{chunks_exact_rest, chunks_exact_size}
+use Rattle.batch.proofs.Lengths.{Left}
+use Rattle.batch.proofs.Outcomes.{Written}
 use Rattle.batch.proofs.put_outcomes.Given as goal
 
 abbrev pub invariant-loop-i : goal.invariant-loop-i
-invariant-loop-i l = (l.i ≤ count l.lengths) × (l.at ≡ total l.i l.lengths) × (length l.out ≡ 8 * count l.lengths)
-    × (take (8 * l.i) l.out ≡ joined l.i (λ k. outcome_bytes (recipe_at l.recipes l.lengths k)))
-
-abbrev pub decreases-loop-i : goal.decreases-loop-i
-decreases-loop-i l = count l.lengths - l.i
+invariant-loop-i l =
+    let n = enumerate_count l.i-iterator in
+    let chunks = enumerate_source l.i-iterator in record {
+      left : Left l.lengths n (chunks_exact_rest chunks) (chunks_exact_size chunks);
+      written : Written l.recipes l.lengths n l.rest l.out;
+    }

@@ -1,5 +1,5 @@
 use mathlib.Core.Path.{◌≡◌}
-use Prim.Native.Nat.{◌-◌, ◌≤◌}
+use Prim.Native.Nat.{◌-◌}
 use Rattle.rules.specs.Table.{recipe_of}
 use Rattle.rules.specs.Places.{is_place}
 use Rattle.rules.specs.State.{check_records}
@@ -8,8 +8,5 @@ use Rattle.block.proofs.check_records.Given as goal
 
 abbrev pub invariant-loop-i : goal.invariant-loop-i
 invariant-loop-i l =
-    (l.i ≤ 33) × OffsetOf l.i l.at
-    × (check_records (is_place (recipe_of l.table)) l.block (33 - l.i) l.i ≡ check_records (is_place (recipe_of l.table)) l.block 33 0)
-
-abbrev pub decreases-loop-i : goal.decreases-loop-i
-decreases-loop-i l = 33 - l.i
+    OffsetOf l.i l.at
+    × (check_records (is_place (recipe_of l.table.bytes.now)) l.block (33 - l.i) l.i ≡ check_records (is_place (recipe_of l.table.bytes.now)) l.block 33 0)

@@ -1,13 +1,9 @@
 use mathlib.Core.Path.{◌≡◌}
 use mathlib.Core.Bool.{true}
-use Prim.Native.Nat.{◌-◌, ◌≤◌}
+use Prim.Native.Nat.{◌-◌}
 use Rattle.rules.specs.State.{unlike}
 use Rattle.block.specs.Block.{OffsetOf}
 use Rattle.block.proofs.is_new.Given as goal
 
-abbrev pub invariant-loop-k : goal.invariant-loop-k
-invariant-loop-k l =
-    (1 ≤ l.k) × (l.k ≤ l.i) × OffsetOf l.k l.earlier × (unlike l.block l.number (l.k - 1) ≡ true)
-
-abbrev pub decreases-loop-k : goal.decreases-loop-k
-decreases-loop-k l = l.i - l.k
+abbrev pub invariant-loop : goal.invariant-loop
+invariant-loop l = OffsetOf l.counter l.earlier × (unlike l.block l.number (l.counter - 1) ≡ true)

@@ -1,21 +1,11 @@
-use mathlib.Core.Path.{◌≡◌, ◌∙◌}
+use mathlib.Core.Path.{◌≡◌}
 use native.Mathlib.Omega.{arith}
-use lib.ListN.{length, length-set, set}
+use lib.ListN.{set}
 use lib.Seq.{sets}
 use Rattle.rules.specs.Fields.{bytes2, bytes4}
 use Rattle.rules.proofs.Lists.{take_sets}
 use Rattle.block.specs.Block.{head_of}
 use Rattle.block.proofs.put_head.Goals as goal
-
-pub put_word-requires : goal.put_word-requires
-put_word-requires c =
-    let k : length c.put_half.new.b ≡ length c.args.b.now = c.put_half.auto.b in
-    simp length-set (omega arith)
-
-pub shape_of-b : goal.shape_of-b
-shape_of-b c =
-    let m : length c.put_word.new.b ≡ length c.put_half.new.b = simp length-set at c.put_word.auto.b in
-    m ∙ c.put_half.auto.b
 
 pub returns : goal.returns
 unfolding head_of

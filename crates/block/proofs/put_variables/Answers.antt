@@ -1,12 +1,12 @@
-use mathlib.Core.Path.{◌≡◌, refl, sym, ap, ◌∙◌}
+use mathlib.Core.Path.{◌≡◌, refl, sym, ◌∙◌}
 use mathlib.Core.List.{List, append-nil}
 use Prim.Native.Nat.{ℕ, ◌+◌, ◌*◌, ◌<◌}
 use native.Mathlib.Omega.{arith}
 use borrow.Author.Rules.{rules}
 use lib.IntN.{pos}
 use lib.Signed.{mag}
-use lib.ListN.{length, get_or, take}
-use lib.Seq.{sets, length-sets, take_all}
+use lib.ListN.{get_or, take}
+use lib.Seq.{sets, take_all}
 use Rattle.values.proofs.Exact.{result32}
 use Rattle.rules.specs.Fields.{bits, bytes4}
 use Rattle.rules.specs.State.{joined}
@@ -15,27 +15,23 @@ use Rattle.block.proofs.put_variables.Goals as goal
 
 pub loop-j-init : goal.loop-j-init
 unfolding joined
-loop-j-init c = (omega arith, omega arith, sym (append-nil _))
+loop-j-init c = sym (append-nil _)
 
 pub loop-j-preserved : goal.loop-j-preserved
 loop-j-preserved c =
     let a = c.args in
-    let j = c.loop-j.j in
-    let b = c.loop-j.b in
-    let f : ℕ → List ℕ = λ k. bytes4 (bits (get_or a.variables k (pos 0))) in
-    let at = 264 + 4 * j in
-    let m : mag (get_or a.variables j (pos 0)) < 2147483648 = search rules in
-    let z = result32 {z = get_or a.variables j (pos 0)} m in
-    let e : c.put_value.new.b ≡ sets b at (f j) = c.put_value.ensures ∙ rw z in
-    let n : 264 + 4 * (j + 1) ≡ at + 4 = omega arith in
-    let l : length c.put_value.new.b ≡ length b = ap length e ∙ length-sets b at (f j) in (
-      omega arith,
-      omega arith,
-      rw (n, e) (joined_more b (take 264 a.b.now) f j at 4 (f j) refl (omega arith) c.loop-j.invariant.2 refl),
-    )
+    let l = c.loop-j in
+    let f : ℕ → List ℕ = λ k. bytes4 (bits (get_or a.variables.now k (pos 0))) in
+    let at = 264 + 4 * l.j in
+    let v = get_or a.variables.now l.j (pos 0) in
+    let m : mag v < 2147483648 = search rules in
+    let z = result32 {z = v} m in
+    let e : c.put_value.new.b ≡ sets l.b at (f l.j) = c.put_value.ensures ∙ rw z in
+    let n : 264 + 4 * (l.j + 1) ≡ at + 4 = omega arith in
+    rw (n, e) (joined_more l.b (take 264 a.b.now) f l.j at 4 (f l.j) refl (omega arith) l.invariant refl)
 
 pub returns : goal.returns
 returns c =
     let l = c.loop-j in
     let e : l.j ≡ 64 = omega arith in
-    sym (take_all 520 l.b (omega arith)) ∙ (rw e at l.invariant.2)
+    sym (take_all 520 l.b (omega arith)) ∙ (rw e at l.invariant)

@@ -1,13 +1,13 @@
 use mathlib.Core.Path.{◌≡◌}
-use Prim.Native.Nat.{◌+◌, ◌-◌, ◌≤◌}
-use lib.ListN.{length, take}
-use Rattle.rules.specs.State.{tab}
-use Rattle.block.specs.Block.{OffsetOf, record_in}
+use Prim.Native.Nat.{ℕ, ◌+◌, ◌<◌}
+use lib.ListN.{length, get_or}
+use Rattle.rules.specs.State.{task_in}
+use Rattle.state.specs.View.{task_of, no_task}
+use Rattle.block.specs.Block.{OffsetOf}
 use Rattle.block.proofs.tasks_in.Given as goal
 
 abbrev pub invariant-loop-i : goal.invariant-loop-i
 invariant-loop-i l =
-    (l.i ≤ l.n) × OffsetOf (l.i + 1) l.from × (length l.tasks ≡ 32) × (take l.i l.tasks ≡ tab l.i (λ k. record_in l.block (k + 1)))
-
-abbrev pub decreases-loop-i : goal.decreases-loop-i
-decreases-loop-i l = l.n - l.i
+    OffsetOf (l.i + 1) l.from
+    × (length l.tasks ≡ 32)
+    × ((k : ℕ) → k < l.i → task_of (get_or l.tasks k no_task) ≡ task_in l.block (k + 1))

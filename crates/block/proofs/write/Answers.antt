@@ -1,24 +1,23 @@
-use Prim.Native.Nat.{ℕ, ◌<◌}
-use mathlib.Core.Path.{◌∙◌}
-use lib.ListN.{get_or}
-use lib.Signed.{mag}
-use borrow.Author.Rules.{rules}
-use Rattle.rules.proofs.Numbers.{mag_range}
-use Rattle.rules.proofs.Blocks.Write.{Held}
-use Rattle.state.specs.View.{task_of}
-use Rattle.block.proofs.Writing.{written}
+use mathlib.Core.Path.{◌≡◌, ap, ◌∙◌}
+use Prim.Native.Nat.{◌+◌, ◌-◌}
+use native.Mathlib.Omega.{arith}
+use mir.Val.{bool_byte}
+use Rattle.block.proofs.Writing.{taken_of, taken_is, room, Fronted, with_none, with_active, written}
 use Rattle.block.proofs.write.Goals as goal
+use Rattle.block.proofs.write.Goals.{in-Some, in_default}
 
 pub returns : goal.returns
 returns c =
-    let s = c.args.s in
-    let small : mag s.current.parameter < 2147483648 = search rules in
-    let held : Held (task_of s.current) = record { number_fits = search rules; place-fits = search rules; parameter-fits = mag_range s.current.parameter small } in
-    let fits : (i : ℕ) → get_or s.queue i 0 < 18446744073709551616 = λ i. search rules in
-    written s c.requires.1 held fits
-    c.wide-first.result c.how_many-taken.result c.pack.result
-    c.put_head.new.b c.put_long.new.b c.put_records-at.new.b
-    c.put_records.new.b c.put_variables.new.b
-    c.wide-first.ensures.0 c.how_many-taken.ensures c.pack.ensures (c.put_head.auto.b ∙ c.requires.0)
-    c.put_head.ensures c.put_long.ensures c.put_records-at.ensures.0
-    c.put_records.ensures.0 c.put_variables.ensures
+    let s = c.args.s.now in
+    let k = taken_of s.active in
+    let n = s.queue.len in
+    let few = room s.active n s.queue.few s.few in
+    let taken : c.from-taken.result ≡ k = c.from-taken.ensures ∙ ap bool_byte c.is_some.ensures ∙ taken_is s.active in
+    let live : n + c.from.result ≡ k + n = omega arith in
+    let front : Fronted s.issued n s.active c.match-s.next c.match-s.block = elim c.match-s.branch [
+      | in-Some w ↦ with_active _ _ _ _ _ _ _ _ live taken c.put_head.ensures w.in-Some.task w.in-Some.is (omega arith) w.next-is (w.block-is ∙ w.put_task.ensures)
+      | in_default w ↦ with_none _ _ _ _ _ _ _ _ live taken c.put_head.ensures w.in_default.is w.next-is w.block-is
+    ] in
+    let all : k + n + (33 - (n + c.from.result + 1)) ≡ 32 = omega arith in
+    written s c.match-s.next c.put_queue-end.result c.match-s.block c.put_queue-end.new.b c.put_unused.new.b c.put_variables.new.b
+    _ all front c.put_queue-end.ensures.bytes c.put_unused.ensures c.put_variables.ensures

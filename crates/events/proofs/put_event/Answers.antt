@@ -21,7 +21,7 @@ spelt log at kind valve task z fits e = ap (λ (w : ℕ). sets log at (row_of ki
 pub returns-in-Spawned : goal.returns-in-Spawned
 unfolding event_row
 returns-in-Spawned c =
-    rw c.in-Spawned.is c.put_row.ensures
+    rw c.in-Spawned.is (rw c.from.ensures at c.put_row.ensures)
 
 pub returns-in-Taken : goal.returns-in-Taken
 unfolding event_row

@@ -1,10 +1,13 @@
+use Prim.Native.Nat.{◌%◌, ◌/◌}
+use mathlib.Core.Path.{◌≡◌, ◌∙◌}
 use native.Mathlib.Omega.{arith}
-use native.Mathlib.Numerals.{add-one}
-use lib.ListN.{length-set}
+use Rattle.rules.specs.Fields.{bytes2}
+use Rattle.fields.proofs.Parts.{part_put}
 use Rattle.fields.proofs.put_half.Goals as goal
 
-pub bounds-b-at-2 : goal.bounds-b-at-2
-bounds-b-at-2 c = simp length-set (omega arith)
-
 pub returns : goal.returns
-returns c = rw add-one
+returns c =
+    let a = c.args in
+    let top : a.x / 256 % 256 ≡ a.x / 256 = omega arith in
+    let e = rw top at (c.copy_from_slice.ensures.after ∙ c.to_le_bytes.ensures) in
+    part_put (bytes2 a.x) a.b.now c.copy_from_slice.new.self a.at _ e (omega arith) c.requires

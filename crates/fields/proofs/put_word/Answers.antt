@@ -1,21 +1,13 @@
-use Prim.Native.Nat.{suc, ◌+◌}
-use mathlib.Core.Path.{◌≡◌}
+use Prim.Native.Nat.{◌%◌, ◌/◌}
+use mathlib.Core.Path.{◌≡◌, ◌∙◌}
 use native.Mathlib.Omega.{arith}
-use lib.ListN.{length-set}
+use Rattle.rules.specs.Fields.{bytes4}
+use Rattle.fields.proofs.Parts.{part_put}
 use Rattle.fields.proofs.put_word.Goals as goal
 
-pub bounds-b-at-2 : goal.bounds-b-at-2
-bounds-b-at-2 c = simp length-set (omega arith)
-
-pub bounds-b-at-3 : goal.bounds-b-at-3
-bounds-b-at-3 c = simp length-set (omega arith)
-
-pub bounds-b-at-4 : goal.bounds-b-at-4
-bounds-b-at-4 c = simp length-set (omega arith)
-
 pub returns : goal.returns
-returns c = let a = c.args.at in
-    let e1 : a + 1 ≡ suc a = omega arith in
-    let e2 : a + 2 ≡ suc (suc a) = omega arith in
-    let e3 : a + 3 ≡ suc (suc (suc a)) = omega arith in
-    rw (e1, e2, e3)
+returns c =
+    let a = c.args in
+    let top : a.w / 16777216 % 256 ≡ a.w / 16777216 = omega arith in
+    let e = rw top at (c.copy_from_slice.ensures.after ∙ c.to_le_bytes.ensures) in
+    part_put (bytes4 a.w) a.b.now c.copy_from_slice.new.self a.at _ e (omega arith) c.requires

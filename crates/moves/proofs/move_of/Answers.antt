@@ -1,55 +1,47 @@
-use Prim.Native.Nat.{ℕ}
-use mathlib.Core.List.{List}
-use mathlib.Core.Path.{◌≡◌, sym, ap, ◌∙◌, subst⁻¹}
+-- What stands at the task's place is the end of a procedure, or a statement that the record there says.
+-- Assumes nothing.
+use Prim.Native.Nat.{◌*◌}
+use mathlib.Core.Path.{◌≡◌, sym, ◌∙◌}
 use native.Mathlib.Omega.{arith}
-use mir.Syntax.{w8}
-use mir.Val.{Fits}
-use lib.ListN.{get_or}
-use Rattle.rules.specs.Table.{fine, check, recipe_of}
-use Rattle.rules.specs.Places.{Point, start}
-use Rattle.rules.specs.State.{Task}
-use Rattle.rules.specs.Standing.{point_at}
+use borrow.Author.Rules.{rules}
+use lib.ListN.{drop}
+use Rattle.std.specs.Prelude.{Some, None}
+use Rattle.rules.specs.Table.{recipe_of}
+use Rattle.rules.specs.Places.{start}
+use Rattle.values.proofs.Exact.{result32}
 use Rattle.state.specs.View.{task_of}
-use Rattle.moves.specs.Moves.{Moves, Begins}
-use Rattle.ready.specs.Ready.{Placed}
-use Rattle.ready.proofs.There.{Place, end-there, few-there}
-use Rattle.moves.proofs.Standing.{stop-there, part-there, span-there, from-two, some-place, leads-there, begins_there}
+use Rattle.table.specs.declared.record.Kind.TheVariants.{Procedure}
+use Rattle.ready.proofs.There.{place_of}
+use Rattle.moves.proofs.Standing.{stop-none, stop-procedure, kind-there, part-there, span-there, from-two, some-place, leads-there, begins_there}
 use Rattle.moves.proofs.Acting.{end-moves}
 use Rattle.moves.proofs.move_of.Goals as goal
 
-place_of : (t : List ℕ) (u : Task ℕ) → ((i : ℕ) → Fits w8 (get_or t i 0)) → check t ≡ fine → Placed (recipe_of t) u → Place t u.place
-place_of t u b a p = record { bytes = λ i. omega (arith, b i); accepted = a; placed = p }
-
-pub returns-then-table-off : goal.returns-then-table-off
-returns-then-table-off c =
-    let place = place_of _ (task_of c.args.t) c.type_inv.table c.requires.0 c.requires.1 in
-    end-moves _ _ (task_of c.args.t) _ (end-there place c.if-table-off.true)
-
-pub returns-then-table-off-eq1 : goal.returns-then-table-off-eq1
-returns-then-table-off-eq1 c =
-    let place = place_of _ (task_of c.args.t) c.type_inv.table c.requires.0 c.requires.1 in
-    end-moves _ _ (task_of c.args.t) _ (stop-there place c.if-table-off.false c.if-table-off-eq1.true)
-
-pub bounds-next-place : goal.bounds-next-place
-bounds-next-place c =
-    let place = place_of _ (task_of c.args.t) c.type_inv.table c.requires.0 c.requires.1 in
-    few-there place c.if-table-off.false
-
 pub statement-requires : goal.statement-requires
 statement-requires c =
-    let p = place_of _ (task_of c.args.t) c.type_inv.table c.requires.0 c.requires.1 in
-    let l = c.if-table-off.false in
-    let h = c.if-table-off-eq1.false in
-    rw c.from.ensures (part-there p l h, span-there p l h, from-two p l h, some-place p l h)
+    let p = place_of c.args.table c.args.t.place c.requires.0 in
+    let k = c.in-Some.kind in
+    let e = rw c.from-place.ensures at (sym c.kind_at.ensures ∙ c.in-Some.is) in
+    let h : ¬ (k ≡ Procedure) = search rules in
+    rw (c.from.ensures, c.from-place.ensures) (part-there p k e h, kind-there p k e h, span-there p k e h, from-two p k e h, some-place p k e h)
 
-pub returns : goal.returns
-returns c =
+pub returns-in-Some : goal.returns-in-Some
+returns-in-Some c =
     let a = c.args in
-    let r = recipe_of a.table.now in
-    let f = c.from.ensures in
-    let p = place_of _ (task_of a.t) c.type_inv.table c.requires.0 c.requires.1 in
-    let g = leads-there p c.if-table-off.false c.if-table-off-eq1.false a.next.now c.requires.2.next_is in
-    let b = begins_there p c.if-table-off.false c.if-table-off-eq1.false a.next.now a.starts.now c.requires.2 in
-    let x = g ∙ ap (λ (p : List ℕ). point_at p a.t.place (get_or a.next.now a.t.place 0)) (sym f) in
-    subst⁻¹ (λ (x : Point ℕ). Moves (start r) x a.variables.now (task_of a.t) c.statement.result) x
-    (c.statement.ensures (start r) (subst⁻¹ (Begins (start r) a.starts.now) f b))
+    let t = a.table.bytes.now in
+    let p = place_of a.table a.t.place c.requires.0 in
+    let k = c.in-Some.kind in
+    let e = rw c.from-place.ensures at (sym c.kind_at.ensures ∙ c.in-Some.is) in
+    let h : ¬ (k ≡ Procedure) = search rules in
+    let part : c.from.result.now ≡ drop (8 * a.t.place) t = rw c.from-place.ensures at c.from.ensures in
+    let s = c.statement.ensures (task_of a.t) (sym (result32 {z = a.t.parameter} (omega arith))) (start (recipe_of t)) (rw part (begins_there p k e h a.links.now c.requires.1)) in
+    rw (c.unwrap_or.ensures, leads-there p k e h a.links.now.next c.requires.1.next_is) (rw (part, c.from-place.ensures) at s)
+
+pub returns-in-None : goal.returns-in-None
+returns-in-None c =
+    let none : c.kind_at.result ≡ None = search rules in
+    end-moves _ _ (task_of c.args.t) _ (stop-none (place_of c.args.table c.args.t.place c.requires.0) (rw c.from-place.ensures at (sym c.kind_at.ensures ∙ none)))
+
+pub returns-in-None-2 : goal.returns-in-None-2
+returns-in-None-2 c =
+    let procedure : c.kind_at.result ≡ Some Procedure = search rules in
+    end-moves _ _ (task_of c.args.t) _ (stop-procedure (place_of c.args.table c.args.t.place c.requires.0) (rw c.from-place.ensures at (sym c.kind_at.ensures ∙ procedure)))

@@ -27,29 +27,29 @@ room at kind task valve value {n} l h =
 pub put_number-t-requires : goal.put_number-t-requires
 put_number-t-requires c =
     let a = c.args in
-    let l = line-length a.kind a.task a.valve a.value (omega arith) (omega arith) (omega arith) in
-    fits c.put_kind-k.ensures (spaced a.task) (room a.at a.kind a.task a.valve a.value l c.requires).0
+    let l = line-length a.kind c.from.result a.valve a.value (omega arith) (omega arith) (omega arith) in
+    fits c.put_kind-k.ensures (spaced c.from.result) (room a.at a.kind c.from.result a.valve a.value l c.requires).0
 
 pub put_number-v-requires : goal.put_number-v-requires
 put_number-v-requires c =
     let a = c.args in
-    let l = line-length a.kind a.task a.valve a.value (omega arith) (omega arith) (omega arith) in
-    fits (then c.put_kind-k.ensures c.put_number-t.ensures) (spaced a.valve) (room a.at a.kind a.task a.valve a.value l c.requires).1
+    let l = line-length a.kind c.from.result c.from-2.result a.value (omega arith) (omega arith) (omega arith) in
+    fits (then c.put_kind-k.ensures c.put_number-t.ensures) (spaced c.from-2.result) (room a.at a.kind c.from.result c.from-2.result a.value l c.requires).1
 
 pub put_value-z-requires : goal.put_value-z-requires
 put_value-z-requires c =
     let a = c.args in
-    let l = line-length a.kind a.task a.valve a.value (omega arith) (omega arith) (omega arith) in
+    let l = line-length a.kind c.from.result c.from-2.result a.value (omega arith) (omega arith) (omega arith) in
     fits (then (then c.put_kind-k.ensures c.put_number-t.ensures) c.put_number-v.ensures)
-    (spaced_value (signed a.value)) (room a.at a.kind a.task a.valve a.value l c.requires).2
+    (spaced_value (signed a.value)) (room a.at a.kind c.from.result c.from-2.result a.value l c.requires).2
 
 pub put_word-requires : goal.put_word-requires
 put_word-requires c =
     let a = c.args in
-    let l = line-length a.kind a.task a.valve a.value (omega arith) (omega arith) (omega arith) in
+    let l = line-length a.kind c.from.result c.from-2.result a.value (omega arith) (omega arith) (omega arith) in
     fits
     (then (then (then c.put_kind-k.ensures c.put_number-t.ensures) c.put_number-v.ensures) c.put_value-z.ensures)
-    (bytes "\n") (room a.at a.kind a.task a.valve a.value l c.requires).3
+    (bytes "\n") (room a.at a.kind c.from.result c.from-2.result a.value l c.requires).3
 
 pub returns : goal.returns
 unfolding line
@@ -59,5 +59,5 @@ returns c =
     then
     (then (then (then c.put_kind-k.ensures c.put_number-t.ensures) c.put_number-v.ensures) c.put_value-z.ensures)
     c.put_word.ensures in
-    let l = line-length a.kind a.task a.valve a.value (omega arith) (omega arith) (omega arith) in
-    record { puts = p; upper_bound = omega (arith, p.ends, l) }
+    let l = line-length a.kind c.from.result c.from-2.result a.value (omega arith) (omega arith) (omega arith) in
+    record { puts = rw (← c.from.ensures, ← c.from-2.ensures) p; upper_bound = omega (arith, p.ends, l) }

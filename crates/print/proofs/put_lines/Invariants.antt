@@ -1,10 +1,7 @@
-use Prim.Native.Nat.{◌*◌, ◌-◌, ◌≤◌}
+use Prim.Native.Nat.{◌*◌, ◌≤◌}
 use Rattle.rules.specs.Print.{lines}
 use Rattle.text.specs.Puts.{Puts}
 use Rattle.print.proofs.put_lines.Given as goal
 
 abbrev pub invariant-loop-i : goal.invariant-loop-i
-invariant-loop-i l = (l.i ≤ l.records) × (l.at ≤ 30 * l.i) × Puts l.initial.b 0 (lines l.log l.i) l.at l.b
-
-abbrev pub decreases-loop-i : goal.decreases-loop-i
-decreases-loop-i l = l.records - l.i
+invariant-loop-i l = (l.at ≤ 30 * l.i) × Puts l.initial.b 0 (lines l.log l.i) l.at l.b

@@ -1,43 +1,68 @@
+use Prim.Native.Nat.{ℕ, ◌+◌, ◌*◌, ◌≤◌}
+use mathlib.Core.Bool.{true}
 use mathlib.Core.List.{List}
-use mathlib.Core.Path.{sym, ap, ◌∙◌}
+use mathlib.Core.Path.{◌≡◌, sym, ap, ◌∙◌, subst⁻¹}
+use native.Mathlib.Omega.{arith}
 use borrow.Author.Rules.{rules}
-use Prim.Native.Nat.{◌+◌, ◌*◌}
+use lib.Dec.{eqb}
 use lib.IntN.{ℤ}
-use lib.ListN.{get_or}
+use lib.ListN.{length, get_or, drop}
+use lib.Seq.{get_or-drop}
 use Rattle.rules.specs.Recipe.{read}
+use Rattle.rules.specs.Table.{kind_of}
 use Rattle.rules.specs.Scheduler.{waits_for}
 use Rattle.state.specs.View.{task_of}
 use Rattle.values.proofs.Exact.{result32}
-use Rattle.ready.proofs.There.{place_of, guard-read, waitable_inside, waits_there, waits-await, waits-value, waits-guard}
+use Rattle.ready.proofs.There.{AwaitThere, place_of, guard-is, no-guard, guard-read, waitable_inside, waits_there, shape_there, waits-await, waits-value, waits-guard}
 use Rattle.ready.proofs.held_by.Goals as goal
+use Rattle.ready.proofs.held_by.Goals.{After-from-record, Else-is}
 
-pub bounds-table-off : goal.bounds-table-off
-bounds-table-off c =
-    let p = place_of _ _ c.type_inv.table c.requires.0 c.requires.1 in
-    waitable_inside p (waits_there p _ _ (task_of c.args.t) c.requires.2.waits)
+pub from-record-requires : goal.from-record-requires
+from-record-requires c =
+    let p = place_of c.args.table c.args.t.place c.requires.0 in
+    let l = waitable_inside p (waits_there p _ _ (task_of c.args.t) c.requires.1.waits) in
+    rw c.from.ensures (omega arith)
 
-pub returns-then-table-off-eq13 : goal.returns-then-table-off-eq13
-returns-then-table-off-eq13 c = λ d e h.
-    let p = place_of _ _ c.type_inv.table c.requires.0 c.requires.1 in
-    sym (waits-guard p d.store _ (task_of c.args.t) h (guard-read p c.if-table-off-eq13.true))
+whole : (c : After-from-record) → 8 ≤ length c.from-record.result.now
+whole c =
+    let p = place_of c.args.table c.args.t.place c.requires.0 in
+    let s = shape_there p (waitable_inside p (waits_there p _ _ (task_of c.args.t) c.requires.1.waits)) in
+    rw (c.from-record.ensures, c.from.ensures) (omega (arith, s.whole))
 
-pub bounds-table-off-2 : goal.bounds-table-off-2
-bounds-table-off-2 c =
-    let p = place_of _ _ c.type_inv.table c.requires.0 c.requires.1 in
-    (waits-await p _ _ (task_of c.args.t) c.requires.2.waits c.if-table-off-eq13.false).inside
+pub is-requires : goal.is-requires
+is-requires c = whole c
+
+pub returns-then-is : goal.returns-then-is
+returns-then-is c = λ d e h.
+    let a = c.args in
+    let p = place_of a.table a.t.place c.requires.0 in
+    let first : eqb (kind_of (drop (8 * a.t.place) a.table.bytes.now)) 13 ≡ true = rw (c.from-record.ensures, c.from.ensures) at (sym c.is.ensures) ∙ c.if-is.true in
+    sym (waits-guard p d.store _ (task_of a.t) h (guard-read p (guard-is p first)))
+
+await_there : (c : Else-is) → AwaitThere (place_of c.args.table c.args.t.place c.requires.0)
+await_there c =
+    let p = place_of c.args.table c.args.t.place c.requires.0 in
+    let first = rw (c.from-record.ensures, c.from.ensures) at (sym c.is.ensures) ∙ c.if-is.false in
+    waits-await p _ _ (task_of c.args.t) c.requires.1.waits (no-guard p first)
+
+name_is : (c : After-from-record) → get_or c.from-record.result.now 1 0 ≡ get_or c.args.table.bytes.now (8 * c.args.t.place + 1) 0
+name_is c = rw (c.from-record.ensures, c.from.ensures) (get_or-drop (8 * c.args.t.place) c.args.table.bytes.now 1 0)
+
+pub bounds-record-1 : goal.bounds-record-1
+bounds-record-1 c = omega (arith, whole (goal.at.bounds-record-1 c).After-from-record)
 
 pub variable-requires : goal.variable-requires
 variable-requires c =
-    let p = place_of _ _ c.type_inv.table c.requires.0 c.requires.1 in
-    (waits-await p _ _ (task_of c.args.t) c.requires.2.waits c.if-table-off-eq13.false).named
+    subst⁻¹ (λ (k : ℕ). k ≤ 64) (name_is (goal.at.variable-requires c).After-from-record) (await_there (goal.at.variable-requires c).Else-is).named
 
 pub returns : goal.returns
 returns c = λ d e h.
-    let p = place_of _ _ c.type_inv.table c.requires.0 c.requires.1 in
     let a = c.args in
-    let n = get_or a.table.now (8 * a.t.place + 1) 0 in
+    let p = place_of a.table a.t.place c.requires.0 in
+    let n = get_or a.table.bytes.now (8 * a.t.place + 1) 0 in
     ap waits_for
     (result32 c.variable.type_inv ∙ c.variable.ensures
-    ∙ ap (λ (p : ℤ). read (record { variables = a.variables.now; parameter = p }) n) (search rules)
+    ∙ ap (λ (p : ℤ). read (record { variables = a.variables.now; parameter = p }) (get_or c.from-record.result.now 1 0)) (search rules)
+    ∙ ap (λ (k : ℕ). read (record { variables = a.variables.now; parameter = a.t.parameter }) k) (name_is (goal.at.returns c).After-from-record)
     ∙ ap (λ (v : List ℤ). read (record { variables = v; parameter = a.t.parameter }) n) (sym e))
-    ∙ sym (waits-value p d.store _ (task_of a.t) h (waits-await p _ _ (task_of a.t) c.requires.2.waits c.if-table-off-eq13.false))
+    ∙ sym (waits-value p d.store _ (task_of a.t) h (await_there (goal.at.returns c).Else-is))

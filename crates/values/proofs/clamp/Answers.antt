@@ -1,23 +1,17 @@
+use mathlib.Core.Path.{◌≡◌, ◌∙◌}
+use native.Mathlib.Omega.{arith}
+use Rattle.std.proofs.lemmas.Int.{ints}
+use mir.Syntax.{w32, w64}
+use mir.Val.{to_z, of_z}
 use mir.Facts.{to_z-of_z}
-use Rattle.values.proofs.Range as range
+use Rattle.std.specs.Int.{int_max, int_min}
+use Rattle.rules.specs.Values.{lowest, highest}
+use Rattle.values.proofs.Range.{nearest}
 use Rattle.values.proofs.clamp.Goals as goal
-
-pub returns-then-x-ltminus2147483648 : goal.returns-then-x-ltminus2147483648
-returns-then-x-ltminus2147483648 c = range.low _ (rw (to_z-of_z c.ranges.x) at c.if-x-ltminus2147483648.true)
-
-pub returns-then-x-gt2147483647 : goal.returns-then-x-gt2147483647
-returns-then-x-gt2147483647 c =
-    let e = to_z-of_z c.ranges.x in
-    range.high _ (rw e at c.if-x-ltminus2147483648.false) (rw e at c.if-x-gt2147483647.true)
-
-pub overflow_cast-result : goal.overflow_cast-result
-overflow_cast-result c =
-    let e = to_z-of_z c.ranges.x in
-    rw e (range.in_range_lem _ (rw e at c.if-x-ltminus2147483648.false) (rw e at c.if-x-gt2147483647.false))
 
 pub returns : goal.returns
 returns c =
-    let e = to_z-of_z c.ranges.x in
-    let low = (rw e at c.if-x-ltminus2147483648.false) in
-    let high = (rw e at c.if-x-gt2147483647.false) in
-    rw (e, to_z-of_z (range.in_range_lem c.args.x low high)) (range.within c.args.x low high)
+    let same : c.clamp.result ≡ int_max lowest (int_min c.args.x highest) =
+    rw (to_z-of_z c.ranges.x, c.from.ensures, c.from-2.ensures) at c.clamp.ensures.value in
+    let read : to_z w32 (of_z w32 (to_z w64 (of_z w64 c.clamp.result))) ≡ c.clamp.result = omega (arith, ints) in
+    read ∙ same ∙ nearest c.args.x

@@ -1,28 +1,26 @@
-use mathlib.Core.Path.{refl, sym, ap, ◌∙◌}
-use mathlib.Core.Option.{map, some-injective}
-use native.Mathlib.Omega.{arith}
-use Rattle.rules.specs.Scheduler.{number_of}
-use Rattle.links.proofs.Leading.{links_are}
-use Rattle.count.specs.Along.{goes_on}
+use Rattle.std.proofs.Common.{◌≡◌, length, sym, ap, ◌∙◌, rules}
+use denote.Enum.Bare.{sameb, same_true}
+use Rattle.links.specs.declared.Links.{Links}
+use Rattle.links.proofs.Leading.{links_set}
+use Rattle.count.specs.contracts.Stop.{the_type}
+use Rattle.count.specs.declared.Stop.{Stop}
+use Rattle.count.specs.declared.Stop.TheVariants.{Stuck}
 use Rattle.why.proofs.Stuck.{stuck_when}
 use Rattle.why.proofs.is_stuck.Goals as goal
 
-pub drive-ran-requires : goal.drive-ran-requires
-drive-ran-requires c =
-    let links = c.links.ensures in
+pub drive-requires : goal.drive-requires
+drive-requires c =
+    let t = c.args.table in
+    let next = ap (λ (l : Links). length l.next) c.none-links.ensures in
+    let starts = ap (λ (l : Links). length l.starts) c.none-links.ensures in
     record {
-      accepted = c.requires.0;
-      links = rw (links.next_after, links.starts_after) (links_are c.args.table.now (λ i. omega (arith, c.type_inv.table i)) c.requires.0 _ _ refl refl);
-      fine_state = c.requires.1;
-      fits = c.requires.2;
+      linked = links_set t.bytes.now t.in_bytes t.fine c.none-links.result c.set.new.self next starts c.set.ensures.next_after c.set.ensures.starts_after;
+      fits = c.requires;
     }
-
-pub number_of-requires : goal.number_of-requires
-number_of-requires c = ap goes_on c.drive-ran.ensures.stop_is
 
 pub returns : goal.returns
 returns c =
-    let a = c.args in
-    let drives = c.drive-ran.ensures in
-    stuck_when a.table.now a.s 1 c.number_of.result
-    (some-injective _ _ (c.number_of.ensures ∙ ap (map number_of) drives.stop_is) ∙ ap number_of (sym drives.ended.ends_so))
+    let when = stuck_when c.args.table.bytes.now c.args.s 1 c.drive.result.stop c.drive.ensures.ended.ends_so in (
+      λ h. when.0 (same_true the_type (search rules) _ _ (sym c.eq.ensures ∙ h)),
+      λ k. c.eq.ensures ∙ ap (λ (x : Stop). sameb the_type x Stuck) (when.1 k),
+    )

@@ -1,48 +1,51 @@
-use mathlib.Core.Path.{refl, ap, ◌∙◌}
+use mathlib.Core.Path.{◌≡◌, ap, ◌∙◌}
 use native.Mathlib.Omega.{arith}
+use lib.ListN.{length}
+use borrow.Author.Rules.{rules}
 use Rattle.rules.specs.Table.{recipe_of}
 use Rattle.rules.specs.Places.{is_place}
 use Rattle.rules.specs.State as R
 use Rattle.rules.specs.Scheduler.{run}
 use Rattle.rules.specs.Steps.{recipes}
-use Rattle.rules.specs.Run.{room_of, outcome}
+use Rattle.rules.specs.Run.{place_of, room_of, outcome}
 use Rattle.rules.proofs.Blocks.{fit_read}
-use Rattle.links.proofs.Leading.{links_are}
-use Rattle.count.specs.Along.{goes_on}
-use Rattle.runner.proofs.Calling.{head_fits_lem, records_fit, answers}
+use Rattle.state.specs.View.{view}
+use Rattle.links.proofs.Leading.{links_set}
+use Rattle.count.specs.Along.{ending_of}
+use Rattle.runner.proofs.Calling.{head_fits_lem, records_fit, answers, place-named, no_place}
 use Rattle.runner.proofs.call.carry_out.Goals as goal
+use Rattle.runner.proofs.call.carry_out.Goals.{in-NoValue-Some, in_default, in_default-2}
 
-pub read-first-requires : goal.read-first-requires
-read-first-requires c = head_fits_lem (is_place (recipe_of c.args.table.now)) c.args.state.now c.requires.1
+pub read-requires : goal.read-requires
+read-requires c = head_fits_lem (is_place (recipe_of c.args.table.bytes.now)) c.args.state.now c.requires
 
 pub drive-ran-requires : goal.drive-ran-requires
 drive-ran-requires c =
-    let t = c.args.table.now in
-    let links = c.links.ensures in
-    let read = c.read-first.ensures in
+    let a = c.args in
+    let t = a.table.bytes.now in
+    let next : length c.none-links.result.next ≡ 4096 = search rules in
+    let starts : length c.none-links.result.starts ≡ 256 = search rules in
     record {
-      accepted = c.requires.0;
-      links = rw (links.next_after, links.starts_after) (links_are t (λ i. omega (arith, c.type_inv.table i)) c.requires.0 _ _ refl refl);
-      fine_state = read.1;
-      fits = rw read.0 (fit_read (recipe_of t) c.args.state.now (λ i. omega (arith, c.slice_known-1.given i)) c.requires.1);
+      linked = links_set t a.table.in_bytes a.table.fine c.none-links.result c.set.new.self next starts c.set.ensures.next_after c.set.ensures.starts_after;
+      fits = rw c.read.ensures (fit_read (recipe_of t) a.state.now (λ i. search rules) c.requires);
     }
 
 pub write-requires : goal.write-requires
-write-requires c =
-    ((head_fits_lem (is_place (recipe_of c.args.table.now)) c.args.state.now c.requires.1).0, c.drive-ran.ensures.fine_state)
-
-pub number_of-number-requires : goal.number_of-number-requires
-number_of-number-requires c = ap goes_on c.drive-ran.ensures.stop_is
+write-requires c = (head_fits_lem (is_place (recipe_of c.args.table.bytes.now)) c.args.state.now c.requires).0
 
 pub overflow_cast-result : goal.overflow_cast-result
-overflow_cast-result c =
-    let d = c.drive-ran in
-    let f = records_fit d.ensures in
-    omega arith
+overflow_cast-result c = let f = records_fit c.drive-ran.ensures in omega arith
 
 pub returns : goal.returns
 returns c =
     let a = c.args in
-    let r = recipe_of a.table.now in
-    answers c.drive-ran.ensures _ _ _ c.number_of-number.ensures c.place_of.ensures c.write.ensures
-    ∙ ap (λ (s : R.State). outcome r (run (recipes r) a.budget (room_of a.log.now) s) a.log.now) c.read-first.ensures.0
+    let r = recipe_of a.table.bytes.now in
+    let ran = c.drive-ran.result in
+    let place : c.match-ran.place ≡ place_of (ending_of ran.stop) (view ran.state) =
+    elim c.match-ran.branch [
+      | in-NoValue-Some w ↦ w.place-is ∙ w.from-place.ensures ∙ place-named ran.stop ran.state w.in-NoValue-Some.task w.in-NoValue-Some.is-0 w.in-NoValue-Some.is-1
+      | in_default w ↦ w.place-is ∙ no_place ran.stop ran.state (λ t e h. absurd (let g = w.in_default.is-1 in cc))
+      | in_default-2 w ↦ w.place-is ∙ no_place ran.stop ran.state (λ t e h. w.in_default.not-NoValue-0 e)
+    ] in
+    answers c.drive-ran.ensures _ _ _ c.from.ensures place c.write.ensures
+    ∙ ap (λ (s : R.State). outcome r (run (recipes r) a.budget (room_of a.log.now) s) a.log.now) c.read.ensures

@@ -1,162 +1,129 @@
 use Prim.Native.Nat.{ℕ}
-use mathlib.Core.Path.{◌≡◌, sym, ap, ◌∙◌, subst, subst⁻¹}
+use mathlib.Core.Path.{◌≡◌, ◌∙◌, subst⁻¹}
 use native.Mathlib.Omega.{arith}
+use lib.IntN.{ℤ}
 use mir.Syntax.{w32}
 use mir.Val.{to_z, of_z}
 use borrow.Author.Rules.{rules}
-use Rattle.state.specs.declared.State.{State}
-use Rattle.state.specs.View.{view, Fine, turn}
-use Rattle.moves.specs.declared.Move.{Move}
-use Rattle.active.specs.Active.{left_by, Room}
-use Rattle.runner.proofs.Driving.{left_with, driven_start, to_proceed, to_try, came, tried, came_ends, came_away, came_room, came_further, came_on, puts_back_else, tried-ends, tried-further, no_turn, turned_off, turned-some, to_take, tried-on}
+use Rattle.std.specs.Prelude.{Ok}
+use Rattle.moves.specs.declared.Move.TheVariants.{Spawns, Ends}
+use Rattle.runner.proofs.Driving.{driven_start, to_proceed, came, tried, came_ends, came_within, came_on, puts_back_else, Turned, no_turn, turned-some, front_placed, tried_within, tried-ends, tried-on}
 use Rattle.runner.proofs.drive.drive.Goals as goal
 use Rattle.runner.proofs.drive.drive.Goals.{then-w-ne0, else-w-ne0}
 
--- the state u is s with n turns made
-abbrev Turned : State → ℕ → State → Type 0
-Turned s n u = (view u ≡ turn n (view s)) × Fine u
-
 pub loop-s-init : goal.loop-s-init
-loop-s-init c = driven_start _ _ _ c.none_yet-n.ensures.0 c.none_yet-n.ensures.1 c.requires
+loop-s-init c = driven_start _ c.requires
 
 pub proceed-p-requires : goal.proceed-p-requires
-proceed-p-requires c =
-    rw c.bounds_of-bounds.ensures (to_proceed c.loop-s.invariant _ _ c.requires.accepted c.requires.links c.if-s.true)
+proceed-p-requires c = to_proceed c.loop-s.invariant c.requires.linked c.in-Some.is
 
-pub returns-then-not-is_more : goal.returns-then-not-is_more
-returns-then-not-is_more c =
-    let m = came c.loop-s.invariant c.bounds_of-bounds.result c.proceed-p.result c.proceed-p.new.variables c.proceed-p.new.log c.bounds_of-bounds.ensures c.if-s.true c.proceed-p.ensures.leaves_so c.proceed-p.ensures.left in
-    rw c.stopped.ensures (came_ends m (sym c.is_more.ensures ∙ c.if-not-is_more.true))
+pub returns-in-Err : goal.returns-in-Err
+returns-in-Err c =
+    let x = came c.loop-s.invariant c.in-Some.task c.proceed-p.result c.proceed-p.new.variables c.proceed-p.new.log c.in-Some.is c.proceed-p.ensures.left in
+    rw c.stopped.ensures (record { ended = came_ends x c.in-Err.is })
 
-pub spawn-s-requires : goal.spawn-s-requires
-spawn-s-requires c =
-    let m = came c.loop-s.invariant c.bounds_of-bounds.result c.proceed-p.result c.proceed-p.new.variables c.proceed-p.new.log c.bounds_of-bounds.ensures c.if-s.true c.proceed-p.ensures.leaves_so c.proceed-p.ensures.left in
-    let more = sym c.is_more.ensures ∙ c.if-not-is_more.false in
-    let r = subst (λ (m : Move). Room m c.loop-s.s.queued c.loop-s.s.issued) c.in-Spawns.is (came_room m more) in
-    (m.fine_state, m.on, r.0, r.1)
+pub loop-s-preserved-in-Ok-Spawns : goal.loop-s-preserved-in-Ok-Spawns
+loop-s-preserved-in-Ok-Spawns c =
+    let x = came c.loop-s.invariant c.in-Some.task c.proceed-p.result c.proceed-p.new.variables c.proceed-p.new.log c.in-Some.is c.proceed-p.ensures.left in
+    let is : c.proceed-p.result.left ≡ Ok (Spawns c.in-Ok-Spawns.field-0-0 c.in-Ok-Spawns.start c.in-Ok-Spawns.v c.in-Ok-Spawns.field-0-3) = search rules in
+    let fits : to_z w32 (of_z w32 c.in-Ok-Spawns.v) ≡ c.in-Ok-Spawns.v = search rules in
+    came_on x is (rw fits at c.spawn-s.ensures)
 
-pub loop-s-preserved-in-Spawns : goal.loop-s-preserved-in-Spawns
-loop-s-preserved-in-Spawns c =
-    let m = came c.loop-s.invariant c.bounds_of-bounds.result c.proceed-p.result c.proceed-p.new.variables c.proceed-p.new.log c.bounds_of-bounds.ensures c.if-s.true c.proceed-p.ensures.leaves_so c.proceed-p.ensures.left in
-    let more = sym c.is_more.ensures ∙ c.if-not-is_more.false in
-    let fits : to_z w32 (of_z w32 c.in-Spawns.v) ≡ c.in-Spawns.v = search rules in
-    came_on m more c.spawn-s.result (rw fits at c.spawn-s.ensures.0 ∙ ap (λ (m : Move). left_by m (view (left_with c.loop-s.s c.proceed-p.result.task c.proceed-p.new.variables))) (sym c.in-Spawns.is)) c.spawn-s.ensures.1
+pub loop-s-preserved-in-Ok-Ends : goal.loop-s-preserved-in-Ok-Ends
+loop-s-preserved-in-Ok-Ends c =
+    let x = came c.loop-s.invariant c.in-Some.task c.proceed-p.result c.proceed-p.new.variables c.proceed-p.new.log c.in-Some.is c.proceed-p.ensures.left in
+    let is : c.proceed-p.result.left ≡ Ok Ends = search rules in
+    came_on x is c.end-s.ensures
 
-pub loop-s-smaller-in-Spawns : goal.loop-s-smaller-in-Spawns
-loop-s-smaller-in-Spawns c =
-    let m = came c.loop-s.invariant c.bounds_of-bounds.result c.proceed-p.result c.proceed-p.new.variables c.proceed-p.new.log c.bounds_of-bounds.ensures c.if-s.true c.proceed-p.ensures.leaves_so c.proceed-p.ensures.left in
-    let more = sym c.is_more.ensures ∙ c.if-not-is_more.false in
-    let fits : to_z w32 (of_z w32 c.in-Spawns.v) ≡ c.in-Spawns.v = search rules in
-    let n = came_further m more in
-    let b = (came_on m more c.spawn-s.result (rw fits at c.spawn-s.ensures.0 ∙ ap (λ (m : Move). left_by m (view (left_with c.loop-s.s c.proceed-p.result.task c.proceed-p.new.variables))) (sym c.in-Spawns.is)) c.spawn-s.ensures.1).along.in_budget in
+pub loop-s-preserved-in-Ok : goal.loop-s-preserved-in-Ok
+loop-s-preserved-in-Ok c =
+    let x = came c.loop-s.invariant c.in-Some.task c.proceed-p.result c.proceed-p.new.variables c.proceed-p.new.log c.in-Some.is c.proceed-p.ensures.left in
+    let so = rw c.in-Ok.is at c.proceed-p.ensures.leaves_so in
+    let spawns : (n p : ℕ) (z : ℤ) (k : ℕ) → ¬ (c.in-Ok.field-0 ≡ Spawns n p z k) = λ n p z k. search rules in
+    let ends : ¬ (c.in-Ok.field-0 ≡ Ends) = search rules in
+    came_on x c.in-Ok.is (c.put_back-s.ensures ∙ puts_back_else c.in-Ok.field-0 _ so.0 spawns ends)
+
+pub loop-s-smaller-in-Ok-Spawns : goal.loop-s-smaller-in-Ok-Spawns
+loop-s-smaller-in-Ok-Spawns c =
+    let x = came c.loop-s.invariant c.in-Some.task c.proceed-p.result c.proceed-p.new.variables c.proceed-p.new.log c.in-Some.is c.proceed-p.ensures.left in
+    let so = rw c.in-Ok-Spawns.is at c.proceed-p.ensures.leaves_so in
+    let further = so.2 in
+    let b = came_within x c.in-Ok-Spawns.is in
     omega arith
 
-pub end-s-requires : goal.end-s-requires
-end-s-requires c =
-    let m = came c.loop-s.invariant c.bounds_of-bounds.result c.proceed-p.result c.proceed-p.new.variables c.proceed-p.new.log c.bounds_of-bounds.ensures c.if-s.true c.proceed-p.ensures.leaves_so c.proceed-p.ensures.left in
-    m.fine_state
-
-pub loop-s-preserved-in-Ends : goal.loop-s-preserved-in-Ends
-loop-s-preserved-in-Ends c =
-    let m = came c.loop-s.invariant c.bounds_of-bounds.result c.proceed-p.result c.proceed-p.new.variables c.proceed-p.new.log c.bounds_of-bounds.ensures c.if-s.true c.proceed-p.ensures.leaves_so c.proceed-p.ensures.left in
-    let more = sym c.is_more.ensures ∙ c.if-not-is_more.false in
-    came_on m more c.end-s.result (c.end-s.ensures.0 ∙ ap (λ (m : Move). left_by m (view (left_with c.loop-s.s c.proceed-p.result.task c.proceed-p.new.variables))) (sym c.in-Ends.is)) c.end-s.ensures.1
-
-pub loop-s-smaller-in-Ends : goal.loop-s-smaller-in-Ends
-loop-s-smaller-in-Ends c =
-    let m = came c.loop-s.invariant c.bounds_of-bounds.result c.proceed-p.result c.proceed-p.new.variables c.proceed-p.new.log c.bounds_of-bounds.ensures c.if-s.true c.proceed-p.ensures.leaves_so c.proceed-p.ensures.left in
-    let more = sym c.is_more.ensures ∙ c.if-not-is_more.false in
-    let n = came_further m more in
-    let b = (came_on m more c.end-s.result (c.end-s.ensures.0 ∙ ap (λ (m : Move). left_by m (view (left_with c.loop-s.s c.proceed-p.result.task c.proceed-p.new.variables))) (sym c.in-Ends.is)) c.end-s.ensures.1).along.in_budget in
+pub loop-s-smaller-in-Ok-Ends : goal.loop-s-smaller-in-Ok-Ends
+loop-s-smaller-in-Ok-Ends c =
+    let x = came c.loop-s.invariant c.in-Some.task c.proceed-p.result c.proceed-p.new.variables c.proceed-p.new.log c.in-Some.is c.proceed-p.ensures.left in
+    let so = rw c.in-Ok-Ends.is at c.proceed-p.ensures.leaves_so in
+    let further = so.2 in
+    let b = came_within x c.in-Ok-Ends.is in
     omega arith
 
-pub put_back-s-requires : goal.put_back-s-requires
-put_back-s-requires c =
-    let m = came c.loop-s.invariant c.bounds_of-bounds.result c.proceed-p.result c.proceed-p.new.variables c.proceed-p.new.log c.bounds_of-bounds.ensures c.if-s.true c.proceed-p.ensures.leaves_so c.proceed-p.ensures.left in
-    (m.fine_state, m.on)
-
-pub loop-s-preserved-in_default : goal.loop-s-preserved-in_default
-loop-s-preserved-in_default c =
-    let m = came c.loop-s.invariant c.bounds_of-bounds.result c.proceed-p.result c.proceed-p.new.variables c.proceed-p.new.log c.bounds_of-bounds.ensures c.if-s.true c.proceed-p.ensures.leaves_so c.proceed-p.ensures.left in
-    let more = sym c.is_more.ensures ∙ c.if-not-is_more.false in
-    came_on m more c.put_back-s.result (c.put_back-s.ensures.0 ∙ puts_back_else c.proceed-p.result.last (view (left_with c.loop-s.s c.proceed-p.result.task c.proceed-p.new.variables)) (came_away m more) c.in_default.not-Spawns c.in_default.not-Ends) c.put_back-s.ensures.1
-
-pub loop-s-smaller-in_default : goal.loop-s-smaller-in_default
-loop-s-smaller-in_default c =
-    let m = came c.loop-s.invariant c.bounds_of-bounds.result c.proceed-p.result c.proceed-p.new.variables c.proceed-p.new.log c.bounds_of-bounds.ensures c.if-s.true c.proceed-p.ensures.leaves_so c.proceed-p.ensures.left in
-    let more = sym c.is_more.ensures ∙ c.if-not-is_more.false in
-    let n = came_further m more in
-    let b = (came_on m more c.put_back-s.result (c.put_back-s.ensures.0 ∙ puts_back_else c.proceed-p.result.last (view (left_with c.loop-s.s c.proceed-p.result.task c.proceed-p.new.variables)) (came_away m more) c.in_default.not-Spawns c.in_default.not-Ends) c.put_back-s.ensures.1).along.in_budget in
+pub loop-s-smaller-in-Ok : goal.loop-s-smaller-in-Ok
+loop-s-smaller-in-Ok c =
+    let x = came c.loop-s.invariant c.in-Some.task c.proceed-p.result c.proceed-p.new.variables c.proceed-p.new.log c.in-Some.is c.proceed-p.ensures.left in
+    let so = rw c.in-Ok.is at c.proceed-p.ensures.leaves_so in
+    let further = so.2 in
+    let b = came_within x c.in-Ok.is in
     omega arith
 
-pub try_all-w-requires : goal.try_all-w-requires
-try_all-w-requires c = rw c.bounds_of-bounds.ensures (to_try c.loop-s.invariant c.requires.accepted c.if-s.false)
-
-pub turn-requires : goal.turn-requires
-turn-requires c =
-    let w = tried c.loop-s.invariant c.bounds_of-bounds.result c.try_all-w.result c.try_all-w.new.log c.bounds_of-bounds.ensures c.if-s.false c.try_all-w.ensures.within c.try_all-w.ensures.tries in
-    (c.loop-s.invariant.fine_state, c.if-s.false, w.1)
-
-pub returns-then-not-is_more-2 : goal.returns-then-not-is_more-2
-returns-then-not-is_more-2 c =
-    let w = tried c.loop-s.invariant c.bounds_of-bounds.result c.try_all-w.result c.try_all-w.new.log c.bounds_of-bounds.ensures c.if-s.false c.try_all-w.ensures.within c.try_all-w.ensures.tries in
-    rw c.stopped-then-not-is_more-2.ensures (tried-ends w.0 (sym c.is_more-else-s.ensures ∙ c.if-not-is_more-2.true) _ c.turn.ensures.0 c.turn.ensures.1)
-
-pub turn-s-requires : goal.turn-s-requires
-turn-s-requires c =
-    let w = tried c.loop-s.invariant c.bounds_of-bounds.result c.try_all-w.result c.try_all-w.new.log c.bounds_of-bounds.ensures c.if-s.false c.try_all-w.ensures.within c.try_all-w.ensures.tries in
-    (c.loop-s.invariant.fine_state, c.if-s.false, w.1)
-
-pub onward-t-requires : goal.onward-t-requires
-onward-t-requires c =
-    let w = tried c.loop-s.invariant c.bounds_of-bounds.result c.try_all-w.result c.try_all-w.new.log c.bounds_of-bounds.ensures c.if-s.false c.try_all-w.ensures.within c.try_all-w.ensures.tries in
-    let more = sym c.is_more-else-s.ensures ∙ c.if-not-is_more-2.false in
+pub returns-in-Some-stop : goal.returns-in-Some-stop
+returns-in-Some-stop c =
+    let s = c.loop-s.s in
+    let off = c.in_default.is in
     let n = c.try_all-w.result.turns in
-    let t : Turned c.loop-s.s n c.if-w-ne0.s =
+    let t : Turned s n c.if-w-ne0.s =
     elim c.if-w-ne0.branch [
-      | then-w-ne0 b ↦ subst⁻¹ (Turned c.loop-s.s n) b.s-is b.turn-s.ensures
-      | else-w-ne0 b ↦ subst⁻¹ (Turned c.loop-s.s n) b.s-is (no_turn n c.loop-s.s b.if-w-ne0.false, c.loop-s.invariant.fine_state)
+      | then-w-ne0 b ↦ subst⁻¹ (Turned s n) b.s-is (record { off = off; view-is = b.turn-s.ensures })
+      | else-w-ne0 b ↦ subst⁻¹ (Turned s n) b.s-is (record { off = off; view-is = no_turn n s b.if-w-ne0.false })
     ] in
-    to_take w.0 more c.if-w-ne0.s t.0 t.1 _ c.args.starts.now _ c.requires.accepted c.requires.links (to_try c.loop-s.invariant c.requires.accepted c.if-s.false)
+    let x = tried c.loop-s.invariant c.try_all-w.result c.try_all-w.new.log off c.try_all-w.ensures.tries in
+    rw c.stopped-in-Some-stop.ensures (record { ended = tried-ends t x c.in-Some-stop.is })
 
-pub take_up-s-requires : goal.take_up-s-requires
-take_up-s-requires c =
-    let w = tried c.loop-s.invariant c.bounds_of-bounds.result c.try_all-w.result c.try_all-w.new.log c.bounds_of-bounds.ensures c.if-s.false c.try_all-w.ensures.within c.try_all-w.ensures.tries in
-    let more = sym c.is_more-else-s.ensures ∙ c.if-not-is_more-2.false in
+pub onward-task-requires-clause-placed : goal.onward-task-requires-clause-placed
+onward-task-requires-clause-placed c =
+    let s = c.loop-s.s in
+    let off = c.in_default.is in
     let n = c.try_all-w.result.turns in
-    let t : Turned c.loop-s.s n c.if-w-ne0.s =
+    let t : Turned s n c.if-w-ne0.s =
     elim c.if-w-ne0.branch [
-      | then-w-ne0 b ↦ subst⁻¹ (Turned c.loop-s.s n) b.s-is b.turn-s.ensures
-      | else-w-ne0 b ↦ subst⁻¹ (Turned c.loop-s.s n) b.s-is (no_turn n c.loop-s.s b.if-w-ne0.false, c.loop-s.invariant.fine_state)
+      | then-w-ne0 b ↦ subst⁻¹ (Turned s n) b.s-is (record { off = off; view-is = b.turn-s.ensures })
+      | else-w-ne0 b ↦ subst⁻¹ (Turned s n) b.s-is (record { off = off; view-is = no_turn n s b.if-w-ne0.false })
     ] in
-    (t.1, turned_off w.0 more c.if-w-ne0.s t.0 t.1, turned-some w.0 more c.if-w-ne0.s t.0 t.1, c.onward-t.ensures.moved)
+    let taken = c.try_all-w.ensures.taken_up c.in_default-stop.is in
+    front_placed c.loop-s.invariant t taken.0
+
+pub take_up-s-requires-clause-queued : goal.take_up-s-requires-clause-queued
+take_up-s-requires-clause-queued c =
+    let s = c.loop-s.s in
+    let off = c.in_default.is in
+    let n = c.try_all-w.result.turns in
+    let t : Turned s n c.if-w-ne0.s =
+    elim c.if-w-ne0.branch [
+      | then-w-ne0 b ↦ subst⁻¹ (Turned s n) b.s-is (record { off = off; view-is = b.turn-s.ensures })
+      | else-w-ne0 b ↦ subst⁻¹ (Turned s n) b.s-is (record { off = off; view-is = no_turn n s b.if-w-ne0.false })
+    ] in
+    let taken = c.try_all-w.ensures.taken_up c.in_default-stop.is in
+    turned-some t taken.0
 
 pub loop-s-preserved : goal.loop-s-preserved
 loop-s-preserved c =
-    let w = tried c.loop-s.invariant c.bounds_of-bounds.result c.try_all-w.result c.try_all-w.new.log c.bounds_of-bounds.ensures c.if-s.false c.try_all-w.ensures.within c.try_all-w.ensures.tries in
-    let more = sym c.is_more-else-s.ensures ∙ c.if-not-is_more-2.false in
+    let s = c.loop-s.s in
+    let off = c.in_default.is in
     let n = c.try_all-w.result.turns in
-    let t : Turned c.loop-s.s n c.if-w-ne0.s =
+    let t : Turned s n c.if-w-ne0.s =
     elim c.if-w-ne0.branch [
-      | then-w-ne0 b ↦ subst⁻¹ (Turned c.loop-s.s n) b.s-is b.turn-s.ensures
-      | else-w-ne0 b ↦ subst⁻¹ (Turned c.loop-s.s n) b.s-is (no_turn n c.loop-s.s b.if-w-ne0.false, c.loop-s.invariant.fine_state)
+      | then-w-ne0 b ↦ subst⁻¹ (Turned s n) b.s-is (record { off = off; view-is = b.turn-s.ensures })
+      | else-w-ne0 b ↦ subst⁻¹ (Turned s n) b.s-is (record { off = off; view-is = no_turn n s b.if-w-ne0.false })
     ] in
-    let e = c.onward-t.ensures in
-    let d = tried-on w.0 more c.if-w-ne0.s t.0 t.1 c.onward-t.result e.past_await e.moved c.take_up-s.result c.take_up-s.ensures.0 c.take_up-s.ensures.1 in
-    d
+    let x = tried c.loop-s.invariant c.try_all-w.result c.try_all-w.new.log off c.try_all-w.ensures.tries in
+    let taken = c.try_all-w.ensures.taken_up c.in_default-stop.is in
+    tried-on t x c.in_default-stop.is taken.0 c.onward-task.result c.onward-task.ensures.past_await c.onward-task.ensures.moved c.take_up-s.result c.take_up-s.ensures
 
 pub loop-s-smaller : goal.loop-s-smaller
 loop-s-smaller c =
-    let w = tried c.loop-s.invariant c.bounds_of-bounds.result c.try_all-w.result c.try_all-w.new.log c.bounds_of-bounds.ensures c.if-s.false c.try_all-w.ensures.within c.try_all-w.ensures.tries in
-    let more = sym c.is_more-else-s.ensures ∙ c.if-not-is_more-2.false in
-    let n = c.try_all-w.result.turns in
-    let t : Turned c.loop-s.s n c.if-w-ne0.s =
-    elim c.if-w-ne0.branch [
-      | then-w-ne0 b ↦ subst⁻¹ (Turned c.loop-s.s n) b.s-is b.turn-s.ensures
-      | else-w-ne0 b ↦ subst⁻¹ (Turned c.loop-s.s n) b.s-is (no_turn n c.loop-s.s b.if-w-ne0.false, c.loop-s.invariant.fine_state)
-    ] in
-    let e = c.onward-t.ensures in
-    let d = tried-on w.0 more c.if-w-ne0.s t.0 t.1 c.onward-t.result e.past_await e.moved c.take_up-s.result c.take_up-s.ensures.0 c.take_up-s.ensures.1 in
-    let b = d.along.in_budget in
-    let f = tried-further w.0 more in
+    let x = tried c.loop-s.invariant c.try_all-w.result c.try_all-w.new.log c.in_default.is c.try_all-w.ensures.tries in
+    let taken = c.try_all-w.ensures.taken_up c.in_default-stop.is in
+    let further = taken.1 in
+    let b = tried_within x c.in_default-stop.is in
     omega arith

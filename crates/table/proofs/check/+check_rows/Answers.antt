@@ -1,93 +1,94 @@
-use mathlib.Core.Path.{◌≡◌, sym, ap, ap₂, ◌∙◌}
-use mathlib.Core.List.{List}
+use mathlib.Core.Path.{◌≡◌, sym, ap, ◌∙◌}
+use Prim.Native.Nat.{◌-◌}
 use native.Mathlib.Omega.{arith}
-use lib.ListN.{length, drop}
+use Rattle.std.proofs.lemmas.Result.{err_from_is_err_and}
 use Rattle.rules.specs.Table as T
-use Rattle.rules.specs.Table.{span_of, Verdict, fine, check_rows}
-use Rattle.rules.proofs.Grammar.Checking.{row-empty}
-use Rattle.table.specs.Check.{sort_of, verdict_in, OfRow, statements, Part, code_of, enclosing, head_of, body, body_at}
-use Rattle.table.proofs.Told.{none_in, fault_in}
-use Rattle.table.proofs.Rows.{HeadFine, head_fine, parted, body-row, Left, left_end, left-part, left_head, left-inside, left-next, left_leaf}
-use Prim.Native.Nat.{ℕ, ◌-◌, ◌<◌}
+use Rattle.rules.specs.Table.{span_of, inner, after, fine, check_rows}
+use Rattle.rules.proofs.Grammar.Checking.{right-whole}
+use Rattle.table.specs.Check.{encloses_of, OfRow, enclosing}
+use Rattle.table.proofs.Rows.{inside_of, inside_none, inside-statements, inside-test, whole-test, inner-row, test-row, left_end, left-part, left_head, head-here, left-inside, left-next, left_leaf}
 use Rattle.table.proofs.check.+check_rows.Goals as goal
-use Rattle.table.proofs.check.+check_rows.Goals.{then-body-gt0+else-inside-ne0, else-body-gt0}
+use Rattle.table.proofs.check.+check_rows.Goals.{in-Statements+in_ok-check_rows-in-Statements, in-ExpressionStatements+in_ok-check_rows-in-ExpressionStatements, in_default}
 
--- within the loop, at the record off bytes on: q is the rest of the row from there, n the answer for the record's head
-part-here : {s : T.Sort} {d at : ℕ} {part : List ℕ} {off i : ℕ} {q : List ℕ} → OfRow s → Left s d at part off i → off < length part → q ≡ drop off part → Part i q
-part-here o l m f = rw f (left-part o l m)
+pub returns-in_err-check_head : goal.returns-in_err-check_head
+returns-in_err-check_head t c =
+    let p = err_from_is_err_and c.from_residual.result c.from_residual.ensures.1 in
+    rw (p.1, p.2) (left_head c.requires.1 c.loop-off.invariant c.loop-off-test.true c.from-rest.ensures c.in_err-check_head.ensures.verdict)
 
-module _ (s : T.Sort) (d : ℕ) (part : List ℕ) (off i : ℕ) (q : List ℕ) (n : ℕ) (f : q ≡ drop off part) (h : verdict_in n ≡ head_of s d i q) where
-  head-is : head_of s d i (drop off part) ≡ verdict_in n
-  head-is = sym (h ∙ ap (head_of s d i) f)
+pub loop-off-preserved-in-Nothing : goal.loop-off-preserved-in-Nothing
+loop-off-preserved-in-Nothing t c =
+    left_leaf c.requires.1 c.loop-off.invariant c.loop-off-test.true c.from-rest.ensures c.in_ok-check_head.ensures.verdict
+    (sym c.in_ok-check_head.ensures.encloses ∙ ap encloses_of c.in-Nothing.is)
 
-  passed : n ≡ 0 → head_of s d i (drop off part) ≡ fine
-  passed z = head-is ∙ none_in n z
-
--- a head that passes there
-fine-here : (s : T.Sort) (d i : ℕ) (q : List ℕ) (n : ℕ) → verdict_in n ≡ head_of s d i q → n ≡ 0 → HeadFine s d i q
-fine-here s d i q n h z = head_fine s d i q (sym h ∙ none_in n z)
-
--- what the record off bytes on encloses, spelled by the rest of the row
-inside-is : (d i : ℕ) (q p : List ℕ) → q ≡ p → check_rows T.statement (d - 1) (body_at i q) (body q) ≡ check_rows T.statement (d - 1) (body_at i p) (body p)
-inside-is d i q p f = ap (λ (l : List ℕ). check_rows T.statement (d - 1) (body_at i l) (body l)) f
-
-pub returns-then-head-ne0 : goal.returns-then-head-ne0
-returns-then-head-ne0 t c =
-    let f = fault_in c.check_head-head.result c.if-head-ne0.true in
-    f
-    ∙ left_head c.requires.1 c.loop-off.invariant c.loop-off-test.true
-    (head-is (sort_of c.args.sort) c.args.left c.args.part.now c.loop-off.off c.loop-off.i _ _ c.from-rest.ensures c.check_head-head.ensures ∙ f)
-
-pub encloses-requires : goal.encloses-requires
-encloses-requires t c = (
-  (part-here c.requires.1 c.loop-off.invariant c.loop-off-test.true c.from-rest.ensures).some,
-  (parted (fine-here (sort_of c.args.sort) c.args.left c.loop-off.i _ _ c.check_head-head.ensures c.if-head-ne0.false)).kind,
-)
-
-pub loop-off-preserved-then-encloses-eq0 : goal.loop-off-preserved-then-encloses-eq0
-loop-off-preserved-then-encloses-eq0 t c =
-    left_leaf c.requires.1 c.loop-off.invariant c.loop-off-test.true
-    (passed (sort_of c.args.sort) c.args.left c.args.part.now c.loop-off.off c.loop-off.i _ _ c.from-rest.ensures c.check_head-head.ensures c.if-head-ne0.false)
-    (ap (λ (l : List ℕ). code_of (enclosing l)) (sym c.from-rest.ensures) ∙ sym c.encloses.ensures ∙ c.if-encloses-eq0.true)
-
-pub body_of-body-requires : goal.body_of-body-requires
-body_of-body-requires t c = parted (fine-here (sort_of c.args.sort) c.args.left c.loop-off.i _ _ c.check_head-head.ensures c.if-head-ne0.false)
-
-pub body_at-requires : goal.body_at-requires
-body_at-requires t c = (
-  part-here c.requires.1 c.loop-off.invariant c.loop-off-test.true c.from-rest.ensures,
-  parted (fine-here (sort_of c.args.sort) c.args.left c.loop-off.i _ _ c.check_head-head.ensures c.if-head-ne0.false),
-)
+pub enclosed-requires : goal.enclosed-requires
+enclosed-requires t c = right-whole (head-here c.requires.1 c.loop-off.invariant c.loop-off-test.true c.from-rest.ensures c.in_ok-check_head.ensures.verdict).own
 
 pub overflow_sub-left : goal.overflow_sub-left
-overflow_sub-left t c = (fine-here (sort_of c.args.sort) c.args.left c.loop-off.i _ _ c.check_head-head.ensures c.if-head-ne0.false).levels
+overflow_sub-left t c = (head-here c.requires.1 c.loop-off.invariant c.loop-off-test.true c.from-rest.ensures c.in_ok-check_head.ensures.verdict).levels
 
-pub check_rows-inside-requires : goal.check_rows-inside-requires
-check_rows-inside-requires t c =
-    let f = fine-here (sort_of c.args.sort) c.args.left c.loop-off.i _ _ c.check_head-head.ensures c.if-head-ne0.false in
-    let l = f.levels in
-    let a = part-here c.requires.1 c.loop-off.invariant c.loop-off-test.true c.from-rest.ensures in
-    (omega (arith, c.decreases), (rw (c.body_of-body.ensures, c.body_at.ensures) (body-row a f), statements))
+pub check_rows-requires : goal.check_rows-requires
+check_rows-requires t c =
+    let a = left-part c.requires.1 c.loop-off.invariant c.loop-off-test.true c.from-rest.ensures in
+    let h = head-here c.requires.1 c.loop-off.invariant c.loop-off-test.true c.from-rest.ensures c.in_ok-check_head.ensures.verdict in
+    (omega (arith, c.decreases, h.levels), (rw c.enclosed.ensures (inner-row a h), OfRow.statements))
 
-pub returns-then-inside-ne0 : goal.returns-then-inside-ne0
-returns-then-inside-ne0 t c =
-    let f = fault_in c.check_rows-inside.result c.if-inside-ne0.true in
-    f
-    ∙ left-inside c.requires.1 c.loop-off.invariant c.loop-off-test.true
-    (passed (sort_of c.args.sort) c.args.left c.args.part.now c.loop-off.off c.loop-off.i _ _ c.from-rest.ensures c.check_head-head.ensures c.if-head-ne0.false)
-    (sym (inside-is c.args.left c.loop-off.i _ _ c.from-rest.ensures) ∙ sym (c.check_rows-inside.ensures ∙ ap₂ (check_rows T.statement _) c.body_at.ensures c.body_of-body.ensures) ∙ f)
+pub returns-in_err-check_rows-in-Statements : goal.returns-in_err-check_rows-in-Statements
+returns-in_err-check_rows-in-Statements t c =
+    let r = c.from_residual-in_err-check_rows-in-Statements in
+    let p = err_from_is_err_and r.result r.ensures.1 in
+    rw (p.1, p.2)
+    (left-inside c.requires.1 c.loop-off.invariant c.loop-off-test.true c.from-rest.ensures c.in_ok-check_head.ensures.verdict
+    (c.in_err-check_rows-in-Statements.ensures ∙ ap (check_rows T.statement _ _) c.enclosed.ensures
+    ∙ inside-statements _ c.loop-off.i c.from-rest.result.now (sym c.in_ok-check_head.ensures.encloses ∙ ap encloses_of c.in-Statements.is)))
+
+pub enclosed-test-requires : goal.enclosed-test-requires
+enclosed-test-requires t c = right-whole (head-here c.requires.1 c.loop-off.invariant c.loop-off-test.true c.from-rest.ensures c.in_ok-check_head.ensures.verdict).own
+
+pub beyond-requires : goal.beyond-requires
+beyond-requires t c =
+    let h = head-here c.requires.1 c.loop-off.invariant c.loop-off-test.true c.from-rest.ensures c.in_ok-check_head.ensures.verdict in
+    rw c.enclosed-test.ensures (whole-test h (sym c.in_ok-check_head.ensures.encloses ∙ ap encloses_of c.in-ExpressionStatements.is))
+
+pub span_of-requires : goal.span_of-requires
+span_of-requires t c =
+    let h = head-here c.requires.1 c.loop-off.invariant c.loop-off-test.true c.from-rest.ensures c.in_ok-check_head.ensures.verdict in
+    let w = whole-test h (sym c.in_ok-check_head.ensures.encloses ∙ ap encloses_of c.in-ExpressionStatements.is) in
+    rw c.enclosed-test.ensures (omega arith)
+
+pub overflow_sub-left-in-ExpressionStatements : goal.overflow_sub-left-in-ExpressionStatements
+overflow_sub-left-in-ExpressionStatements t c =
+    (head-here c.requires.1 c.loop-off.invariant c.loop-off-test.true c.from-rest.ensures c.in_ok-check_head.ensures.verdict).levels
+
+pub check_rows-requires-in-ExpressionStatements : goal.check_rows-requires-in-ExpressionStatements
+check_rows-requires-in-ExpressionStatements t c =
+    let a = left-part c.requires.1 c.loop-off.invariant c.loop-off-test.true c.from-rest.ensures in
+    let h = head-here c.requires.1 c.loop-off.invariant c.loop-off-test.true c.from-rest.ensures c.in_ok-check_head.ensures.verdict in
+    let x = sym c.in_ok-check_head.ensures.encloses ∙ ap encloses_of c.in-ExpressionStatements.is in
+    (omega (arith, c.decreases, h.levels), (rw (c.beyond.ensures, c.span_of.ensures.0, c.enclosed-test.ensures) (test-row a h x), OfRow.statements))
+
+pub returns-in_err-check_rows-in-ExpressionStatements : goal.returns-in_err-check_rows-in-ExpressionStatements
+returns-in_err-check_rows-in-ExpressionStatements t c =
+    let r = c.from_residual-in_err-check_rows-in-ExpressionStatements in
+    let p = err_from_is_err_and r.result r.ensures.1 in
+    rw (p.1, p.2)
+    (left-inside c.requires.1 c.loop-off.invariant c.loop-off-test.true c.from-rest.ensures c.in_ok-check_head.ensures.verdict
+    ((rw (c.beyond.ensures, c.span_of.ensures.0, c.enclosed-test.ensures) at c.in_err-check_rows-in-ExpressionStatements.ensures)
+    ∙ inside-test _ c.loop-off.i c.from-rest.result.now (sym c.in_ok-check_head.ensures.encloses ∙ ap encloses_of c.in-ExpressionStatements.is)))
 
 pub loop-off-preserved : goal.loop-off-preserved
 loop-off-preserved t c =
-    let none : check_rows T.statement (c.args.left - 1) (body_at c.loop-off.i c.from-rest.result.now) (body c.from-rest.result.now) ≡ fine =
-    elim c.if-body-gt0.branch [
-      | then-body-gt0+else-inside-ne0 w ↦ sym (w.check_rows-inside.ensures ∙ ap₂ (check_rows T.statement _) w.body_at.ensures c.body_of-body.ensures) ∙ none_in _ w.if-inside-ne0.false
-      | else-body-gt0 w ↦ row-empty T.statement _ _ (body c.from-rest.result.now) (let l = w.if-body-gt0.false in omega (arith, ap length c.body_of-body.ensures))
+    let x = c.in_ok-check_head.ensures.encloses in
+    let none : fine ≡ inside_of (enclosing c.from-rest.result.now) (c.args.left - 1) c.loop-off.i c.from-rest.result.now =
+    elim c.match-branch-2.branch [
+      | in-Statements+in_ok-check_rows-in-Statements w ↦
+          w.in_ok-check_rows-in-Statements.ensures ∙ ap (check_rows T.statement _ _) w.enclosed.ensures
+          ∙ inside-statements _ c.loop-off.i c.from-rest.result.now (sym x ∙ ap encloses_of w.in-Statements.is)
+      | in-ExpressionStatements+in_ok-check_rows-in-ExpressionStatements w ↦
+          (rw (w.beyond.ensures, w.span_of.ensures.0, w.enclosed-test.ensures) at w.in_ok-check_rows-in-ExpressionStatements.ensures)
+          ∙ inside-test _ c.loop-off.i c.from-rest.result.now (sym x ∙ ap encloses_of w.in-ExpressionStatements.is)
+      | in_default w ↦ inside_none _ c.loop-off.i c.from-rest.result.now c.in_ok-check_head.field-0 x w.in_default.not-Statements w.in_default.not-ExpressionStatements
     ] in
-    let s : c.span_of-span.result ≡ span_of (drop c.loop-off.off c.args.part.now) = c.span_of-span.ensures.0 ∙ ap (λ (l : List ℕ). span_of l) c.from-rest.ensures in
-    rw s (left-next c.requires.1 c.loop-off.invariant c.loop-off-test.true
-    (passed (sort_of c.args.sort) c.args.left c.args.part.now c.loop-off.off c.loop-off.i _ _ c.from-rest.ensures c.check_head-head.ensures c.if-head-ne0.false)
-    (sym (inside-is c.args.left c.loop-off.i _ _ c.from-rest.ensures) ∙ none))
+    left-next c.requires.1 c.loop-off.invariant c.loop-off-test.true c.from-rest.ensures c.in_ok-check_head.ensures.verdict c.span_of-span.ensures.0 none
 
 pub returns : goal.returns
 returns t c = left_end c.requires.1 c.loop-off.invariant c.loop-off-test.false

@@ -1,31 +1,39 @@
+use mathlib.Core.Path.{sym, ap, ◌∙◌}
 use native.Mathlib.Omega.{arith}
-use Rattle.table.proofs.Whole.{rest-start, rest-next, counted, passed_over, procedures-end}
+use Rattle.std.specs.Prelude.{Option, Some}
+use Rattle.std.specs.Option.{option_eq}
+use denote.Enum.Bare.{sameb}
+use Rattle.rules.specs.Table.{kind_of}
+use Rattle.table.specs.contracts.record.Kind.{the_type}
+use Rattle.table.specs.declared.record.Kind.{Kind}
+use Rattle.table.specs.declared.record.Kind.TheVariants.{Procedure}
+use Rattle.table.proofs.Numbered.{named_is}
+use Rattle.table.proofs.Whole.{chunks_none, chunk-next, chunk-length, chunks-next, procedures-next, no-procedures}
 use Rattle.table.proofs.check.procedures_in.Goals as goal
-use Rattle.table.proofs.check.procedures_in.Goals.{then-table-off-eq1, else-table-off-eq1}
 
-pub loop-off-init : goal.loop-off-init
-loop-off-init c = (rest-start _ c.requires, omega arith, omega arith)
+pub loop-record-preserved-then-eq : goal.loop-record-preserved-then-eq
+loop-record-preserved-then-eq c =
+    let i = c.loop-record.invariant in
+    let t = c.in-Some.ensures.steps in
+    let s = chunk-next _ c.in-Some.record.now _ i.chunks t.1.0 t.1.1 in
+    let is = sym (c.eq.ensures ∙ ap (λ (o : Option Kind). option_eq (sameb the_type) o (Some Procedure)) c.kind_at.ensures ∙ named_is (kind_of c.in-Some.record.now) Procedure) ∙ c.if-eq.true in
+    let l = chunk-length s in
+    let n = rw is at (procedures-next s) in
+    record { chunks = chunks-next s i.chunks t.0; counted = omega (arith, i.counted, n); few = omega (arith, i.few) }
 
-pub bounds-table-off : goal.bounds-table-off
-bounds-table-off c = omega arith
-
-pub overflow_add-count : goal.overflow_add-count
-overflow_add-count c = omega arith
-
-pub overflow_add-off : goal.overflow_add-off
-overflow_add-off c = omega (arith, (rest-next c.loop-off.invariant.0 c.loop-off-test.true).inside)
-
-pub loop-off-smaller : goal.loop-off-smaller
-loop-off-smaller c = omega arith
-
-pub loop-off-preserved : goal.loop-off-preserved
-loop-off-preserved c =
-    let l = c.loop-off in
-    let h = c.loop-off-test.true in
-    elim c.if-table-off-eq1.branch [
-      | then-table-off-eq1 w ↦ (rest-next l.invariant.0 h, rw w.count-is (counted _ l.off l.count l.invariant.0 h l.invariant.1 w.if-table-off-eq1.true), omega (arith, w.count-is, l.invariant.2))
-      | else-table-off-eq1 w ↦ (rest-next l.invariant.0 h, rw w.count-is (passed_over _ l.off l.count l.invariant.0 h l.invariant.1 w.if-table-off-eq1.false), omega (arith, w.count-is, l.invariant.2))
-    ]
+pub loop-record-preserved : goal.loop-record-preserved
+loop-record-preserved c =
+    let i = c.loop-record.invariant in
+    let t = c.in-Some.ensures.steps in
+    let s = chunk-next _ c.in-Some.record.now _ i.chunks t.1.0 t.1.1 in
+    let is = sym (c.eq.ensures ∙ ap (λ (o : Option Kind). option_eq (sameb the_type) o (Some Procedure)) c.kind_at.ensures ∙ named_is (kind_of c.in-Some.record.now) Procedure) ∙ c.if-eq.false in
+    let l = chunk-length s in
+    let n = rw is at (procedures-next s) in
+    record { chunks = chunks-next s i.chunks t.0; counted = omega (arith, i.counted, n); few = omega (arith, i.few) }
 
 pub returns : goal.returns
-returns c = let l = c.loop-off in let e = procedures-end l.invariant.0 c.loop-off-test.false in omega (arith, l.invariant.1)
+returns c =
+    let i = c.loop-record.invariant in
+    let e = chunks_none i.chunks c.in-None.ensures.steps.1.0 in
+    let n = rw e at i.counted in
+    omega (arith, n, no-procedures)

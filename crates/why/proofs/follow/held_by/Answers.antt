@@ -1,16 +1,11 @@
-use mathlib.Core.Path.{refl, sym, ap, ◌∙◌, subst⁻¹}
-use mathlib.Core.Bool.{true≢false}
-use Rattle.rules.specs.Scheduler.{is_ready}
-use Rattle.ready.specs.declared.Wait.{Wait}
-use Rattle.ready.specs.Ready.{readiness_of}
-use Rattle.why.specs.declared.follow.Holder.TheVariants.{UntrueGuard}
-use Rattle.why.specs.Follow.{Holds}
+use Rattle.std.proofs.Common.{ℤ, ap, ◌∙◌, rules}
+use Rattle.state.specs.View.{queue_of}
+use Rattle.why.specs.Follow.{index_in}
+use Rattle.why.proofs.Holding.{held_by_index}
 use Rattle.why.proofs.follow.held_by.Goals as goal
 
-pub returns-in-Ready : goal.returns-in-Ready
-returns-in-Ready c = absurd (true≢false (ap (λ (w : Wait). is_ready (readiness_of w)) (sym c.in-Ready.is) ∙ c.requires.2))
-
-pub returns-in-AtGuard : goal.returns-in-AtGuard
-returns-in-AtGuard c = let a = c.args in
-    subst⁻¹ (λ (w : Wait). Holds a.queue.now a.front a.queued (readiness_of w) UntrueGuard) c.in-AtGuard.is
-    (record { within = tt; goes_on_holds = λ r further d ns e. refl })
+pub returns-in-Waits : goal.returns-in-Waits
+returns-in-Waits c =
+    let q = c.args.s.now.queue in
+    let same = c.index_of.ensures ∙ ap (λ (z : ℤ). index_in z (queue_of q)) (search rules) in
+    rw (c.in-Waits.is, c.ok_or.ensures.value) (held_by_index q c.in-Waits.v _ same)

@@ -1,39 +1,29 @@
-use Prim.Native.Nat.{ℕ}
-use mathlib.Core.Path.{sym, ap, ◌∙◌}
-use native.Mathlib.Omega.{arith}
-use borrow.Author.Count.{below_more}
+use Rattle.std.proofs.Common.{ℕ, ◌≡◌, None, Some, sym, ap, ◌∙◌, arith}
 use borrow.Author.Tests.{eq-eqb, ne_eqb}
 use mir.Facts.{to_z-of_z}
-use Rattle.state.specs.View.{entry, queue_of}
+use Rattle.rules.specs.State.{Task}
+use Rattle.state.specs.View.{entry}
 use Rattle.ready.specs.Ready.{natural}
-use Rattle.ready.proofs.Queue.{ahead_all, ahead_at}
-use Rattle.why.specs.Follow.{of_number}
-use Rattle.why.proofs.Naming.{negative, number_is}
+use Rattle.why.proofs.Naming.{no_number, number_is}
+use Rattle.why.proofs.Holding.{found_at, found_none}
 use Rattle.why.proofs.follow.index_of.Goals as goal
 
-pub returns-then-v-lt0 : goal.returns-then-v-lt0
-unfolding queue_of
-returns-then-v-lt0 c =
+pub returns-in_err-number : goal.returns-in_err-number
+returns-in_err-number c =
     let a = c.args in
-    sym (ahead_all (of_number a.v) (entry a.queue.now a.front) a.queued (λ j l. negative a.v _ (rw (to_z-of_z c.ranges.v) at c.if-v-lt0.true)))
+    let none : natural a.v ≡ None = sym (c.natural.ensures ∙ ap natural (to_z-of_z c.ranges.v)) ∙ c.in_err-number.was in
+    c.from_residual.ensures ∙ found_none a.s.now.queue a.v (λ j h. no_number a.v _ none)
 
-pub loop-i-init : goal.loop-i-init
-loop-i-init c = (omega arith, λ k l. absurd (omega arith))
-
-pub returns-then-queue-at : goal.returns-then-queue-at
-unfolding queue_of
-returns-then-queue-at c =
+pub returns-then-from-number : goal.returns-then-from-number
+returns-then-from-number c =
     let a = c.args in
-    let same = λ (k : ℕ). number_is a.v c.natural-number.result (entry a.queue.now a.front k).number (rw (to_z-of_z c.ranges.v) at c.if-v-lt0.false) (c.natural-number.ensures ∙ ap natural (to_z-of_z c.ranges.v)) in
-    sym (ahead_at (of_number a.v) (entry a.queue.now a.front) a.queued c.loop-i.i c.loop-i-test.true
-    (λ j h. same j ∙ ne_eqb _ _ (c.loop-i.invariant.1 j h)) (same c.loop-i.i ∙ eq-eqb _ _ (sym c.if-queue-at.true)))
-
-pub loop-i-preserved : goal.loop-i-preserved
-loop-i-preserved c = (omega arith, below_more _ _ c.loop-i.invariant.1 (λ e. c.if-queue-at.false (sym e)))
+    let q = a.s.now.queue in
+    let some : natural a.v ≡ Some c.in_ok-number.number = sym (c.natural.ensures ∙ ap natural (to_z-of_z c.ranges.v)) ∙ c.in_ok-number.was in
+    let here : c.in_ok-number.number ≡ (entry q c.loop-i.i).number = sym c.if-from-number.true ∙ c.from.ensures ∙ ap (λ (t : Task ℕ). t.number) c.task.ensures in
+    found_at q a.v c.loop-i.i c.loop-i-test.true (λ j h. number_is a.v _ _ some ∙ ne_eqb _ _ (c.loop-i.invariant j h)) (number_is a.v _ _ some ∙ eq-eqb _ _ here)
 
 pub returns : goal.returns
-unfolding queue_of
 returns c =
     let a = c.args in
-    let same = λ (k : ℕ). number_is a.v c.natural-number.result (entry a.queue.now a.front k).number (rw (to_z-of_z c.ranges.v) at c.if-v-lt0.false) (c.natural-number.ensures ∙ ap natural (to_z-of_z c.ranges.v)) in
-    sym (ahead_all (of_number a.v) (entry a.queue.now a.front) a.queued (λ j h. same j ∙ ne_eqb _ _ (c.loop-i.invariant.1 j (omega arith))))
+    let some : natural a.v ≡ Some c.in_ok-number.number = sym (c.natural.ensures ∙ ap natural (to_z-of_z c.ranges.v)) ∙ c.in_ok-number.was in
+    found_none a.s.now.queue a.v (λ j h. number_is a.v _ _ some ∙ ne_eqb _ _ (c.loop-i.invariant j (omega arith)))

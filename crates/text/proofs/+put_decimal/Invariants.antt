@@ -1,6 +1,0 @@
--- The digits of a number by recursion: the measure is the number.
--- Assumes nothing.
-use Rattle.text.proofs.+put_decimal.Given as goal
-
-abbrev pub decreases-put_decimal : goal.decreases-put_decimal
-decreases-put_decimal l = l.n
