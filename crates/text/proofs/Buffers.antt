@@ -1,21 +1,16 @@
 -- Texts in a buffer, one behind another.
 -- Assumes nothing.
 use Prim.Native.Nat.{ℕ, suc, ◌+◌, ◌≤◌}
-use mathlib.Core.Path.{◌≡◌, refl, sym, ap, ◌∙◌}
-use mathlib.Core.List.{List, [], ◌∷◌, ◌++◌, append_assoc}
+use mathlib.Core.Path.{◌≡◌, refl, ap, ◌∙◌}
+use mathlib.Core.List.{List, [], ◌∷◌, ◌++◌}
 use native.Mathlib.Omega.{arith}
-use lib.ListN.{length, take, drop, set, length-append}
-use lib.Seq.{drop-drop, sets, length-sets, sets-eq}
-use borrow.Rule.Slice.PartMut.{put_mid}
+use lib.ListN.{length, drop, set, length-append}
+use lib.Seq.{sets, length-sets, sets-eq}
 use Rattle.text.specs.Puts.{Puts}
 
 sets_append : (b : List ℕ) (at : ℕ) (x y : List ℕ) → sets (sets b at x) (at + length x) y ≡ sets b at (x ++ y)
 sets_append b at [] y = let e : at + 0 ≡ at = omega arith in rw e refl
 sets_append b at (v ∷ x) y = let e : at + suc (length x) ≡ suc at + length x = omega arith in rw e (sets_append (set b at v) (suc at) x y)
-
--- a part of a buffer written as a whole
-pub part-put : (b : List ℕ) (at k : ℕ) (w : List ℕ) {w' : List ℕ} → w' ≡ w → k ≡ length w → at + length w ≤ length b → put_mid at k b w' ≡ sets b at w
-part-put b at k w e n h = rw (e, n) (ap (λ (r : List ℕ). take at b ++ (w ++ r)) (drop-drop (length w) at b) ∙ sym (append_assoc (take at b) w _) ∙ sym (sets-eq w b at h))
 
 pub none : (b : List ℕ) → Puts b 0 [] 0 b
 none b = record { ends = refl; inside = omega arith; holds = refl }

@@ -1,5 +1,5 @@
 use native.Mathlib.Omega.{arith}
-use mathlib.Core.Path.{ap, ◌∙◌}
+use mathlib.Core.Path.{ap}
 use lib.ListN.{length}
 use Rattle.values.proofs.Exact.{result32}
 use Rattle.text.proofs.Buffers.{reads_as}
