@@ -16,7 +16,7 @@ use Rattle.rules.specs.Scheduler.{Halt, goes, next_act}
 use Rattle.rules.specs.Steps.{limits, spawn_at, recipes}
 use Rattle.rules.proofs.Steps.{room}
 use Rattle.moves.specs.declared.Move.{Move}
-use Rattle.moves.specs.declared.Move.TheVariants.{Goes, Sets, Spawns, Gives, Waits, Ends, Lacks}
+use Rattle.moves.specs.declared.Move.TheVariants.{Goes, Sets, Spawns, Gives, Waits, Ends}
 use Rattle.moves.specs.Moves.{act_of, store_with}
 use Rattle.active.specs.Active.{leaves, left_by, Room}
 
@@ -37,7 +37,6 @@ stays (Spawns n p z k) c h = absurd (true≢false h)
 stays (Gives k) c h = absurd (true≢false h)
 stays (Waits z) c h = absurd (true≢false h)
 stays Ends c h = absurd (true≢false h)
-stays Lacks c h = refl
 
 module _ (r : Recipe) (q : List (Task ℕ)) (x : Option Event) (c : State) (issued : ℕ) (v : List ℤ) (t : Task ℕ) where
   -- a spawn that no limit bars
@@ -55,4 +54,3 @@ module _ (r : Recipe) (q : List (Task ℕ)) (x : Option Event) (c : State) (issu
   roomy (Gives k) h = tt
   roomy (Waits z) h = tt
   roomy Ends h = tt
-  roomy Lacks h = absurd (let z : ◌≡◌ {A = ℕ} 0 1 = cc in omega arith)

@@ -11,9 +11,7 @@ use Rattle.rules.specs.Scheduler.{goes, next_act, Run}
 use Rattle.rules.specs.Steps.{recipes}
 use Rattle.state.specs.View.{put_back, spawn, end}
 use Rattle.moves.specs.declared.Move.{Move}
-use Rattle.moves.specs.declared.Move.TheVariants.{Goes, Sets, Spawns, Gives, Waits, Ends, Lacks}
-use Rattle.links.specs.declared.Links.{Links}
-use Rattle.links.specs.Linked.{Linked}
+use Rattle.moves.specs.declared.Move.TheVariants.{Goes, Sets, Spawns, Gives, Waits, Ends}
 use Rattle.moves.specs.Moves.{act_of, store_with}
 use Rattle.count.specs.declared.Count.{Count}
 use Rattle.count.specs.declared.Bounds.{Bounds}
@@ -31,7 +29,6 @@ leaves (Spawns n p z k) = true
 leaves (Gives k) = true
 leaves (Waits z) = true
 leaves Ends = true
-leaves Lacks = false
 
 -- the state with the task t active
 abbrev pub busy : (issued : ℕ) → (variables : List ℤ) → R.Task ℕ → List (R.Task ℕ) → R.State
@@ -45,7 +42,6 @@ left_by (Spawns n p z k) c = spawn p z c
 left_by (Gives k) c = put_back c.active c
 left_by (Waits z) c = put_back c.active c
 left_by Ends c = end c
-left_by Lacks c = c
 
 -- the task t' and the variables v' are what a move makes of t and v: with what it does to the queue, that is the step
 abbrev pub Local : Move → (issued : ℕ) → (t t' : R.Task ℕ) → (v v' : List ℤ) → Type 0
@@ -53,14 +49,13 @@ Local m issued t t' v v' = (r : Recipe) (q : List (R.Task ℕ)) (x : Option Even
     → next_act (recipes r) q (act_of m (store_with issued v) q t) ≡ goes x c
     → left_by m (busy issued v' t' q) ≡ c
 
--- a call on an accepted table has come to the task t, with the links of the table at hand
-pub record Active (table : List ℕ) (links : Links) (b : Bounds) (log : List ℕ) (t : R.Task ℕ) (variables : List ℤ) (n : Count) : Type 0 where
-  pub linked : Linked (recipe_of table) links
+-- a call on an accepted table has come to the task t
+pub record Active (table : List ℕ) (b : Bounds) (log : List ℕ) (t : R.Task ℕ) (variables : List ℤ) (n : Count) : Type 0 where
   pub queue : List (R.Task ℕ)
   pub many : length queue ≡ b.queued
   pub reached : Reached (recipe_of table) b.budget n log (busy b.issued variables t queue)
 
--- neither a limit nor a missing value bars the move
+-- no limit bars the move
 abbrev pub Room : Move → (queued issued : ℕ) → Type 0
 Room (Goes k) queued issued = Unit {0}
 Room (Sets n z k) queued issued = Unit {0}
@@ -68,7 +63,6 @@ Room (Spawns n p z k) queued issued = (queued < 31) × (issued < 65535)
 Room (Gives k) queued issued = Unit {0}
 Room (Waits z) queued issued = Unit {0}
 Room Ends queued issued = Unit {0}
-Room Lacks queued issued = ⊥
 
 -- the call ends at the state c, or goes on by what the move m of its active task does to the queue
 abbrev pub Left : (r : Recipe) → Run (recipes r) → (budget : ℕ) → (given : List ℕ) → Count → (log : List ℕ) → R.State → P.Result Move Stop → Type 0

@@ -45,7 +45,7 @@ fn is_batch(size: usize, lengths: &[u8], space: usize) -> bool
     lengths.len() % 4 == 0 && n <= MOST && total(lengths) == size && space == 8 * n
 }
 
-// Checks a recipe and writes its outcome.
+// Checks a recipe and writes its outcome. (kept: 0 and 0 where it is accepted, as the outcome's bytes have it.)
 fn put_outcome(recipe: &[u8], out: &mut [u8])
     requires { length out.old ≡ 8 }
     ensures { out.new ≡ outcome_bytes recipe.now }

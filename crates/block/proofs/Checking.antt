@@ -7,13 +7,12 @@ use mathlib.Core.List.{List}
 use mathlib.Core.Logic.{⊎_elim}
 use native.Mathlib.Nat.{eq-or-lt_of_le}
 use native.Mathlib.Omega.{arith}
-use lib.Dec.{eqb, leb, eqb-suc-zero}
+use lib.Dec.{eqb, leb}
 use lib.ListN.{length}
 use borrow.Author.Tests.{eq-eqb, ne_eqb, le-leb, lt-leb}
 use Rattle.rules.specs.Fields.{word}
 use Rattle.rules.specs.Table.{fine, fault}
 use Rattle.rules.specs.State.{live_in, issued_in, number_in, unlike, head_fits, task_fits, unused_fits, record_fits, check_records, check_block}
-use Rattle.block.specs.Block.{long}
 
 -- ---- a number among those of the records 1 to m
 
@@ -34,12 +33,6 @@ module _ (b : List ℕ) (n : ℕ) where
 
 -- ---- one record
 
--- the record as one number is 0 exactly where both its words are
-both_zero : (low high : ℕ) → eqb (low + 4294967296 * high) 0 ≡ eqb low 0 && eqb high 0
-both_zero zero zero = refl
-both_zero zero (suc high) = rw (eqb-suc-zero high) (ne_eqb (0 + 4294967296 * suc high) 0 (λ e. omega arith))
-both_zero (suc low) high = rw (eqb-suc-zero low) (ne_eqb (suc low + 4294967296 * high) 0 (λ e. omega arith))
-
 module _ (place : ℕ → Bool) (b : List ℕ) where
   pub record_zero : (i : ℕ) → i ≡ 0 → head_fits b ≡ record_fits place b i
   unfolding record_fits
@@ -50,10 +43,12 @@ module _ (place : ℕ → Bool) (b : List ℕ) where
   record_used zero h l = absurd (h refl)
   record_used (suc i) h l = rw (le-leb (suc i) (live_in b) l)
 
-  pub record_unused : (i : ℕ) → ¬ (i ≡ 0) → live_in b < i → eqb (long b (8 * i)) 0 ≡ record_fits place b i
-  unfolding record_fits unused_fits long
-  record_unused zero h l = absurd (h refl)
-  record_unused (suc i) h l = rw (lt-leb (suc i) (live_in b) l) (both_zero (word b (8 * suc i)) (word b (8 * suc i + 4)))
+  -- low and high are the two words of a record that no task has
+  pub record_unused : (i : ℕ) {at low high : ℕ} → ¬ (i ≡ 0) → live_in b < i → at ≡ 8 * i → low ≡ word b at → high ≡ word b (at + 4)
+      → eqb low 0 && eqb high 0 ≡ record_fits place b i
+  unfolding record_fits unused_fits
+  record_unused zero h l e f g = absurd (h refl)
+  record_unused (suc i) h l e f g = rw (lt-leb (suc i) (live_in b) l, f, g, e)
 
   -- ---- the records from i on decide
 

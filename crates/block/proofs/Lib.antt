@@ -1,3 +1,4 @@
+pub mod Made
 pub mod Checking
 pub mod Placing
 pub mod Reading

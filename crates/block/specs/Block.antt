@@ -11,10 +11,6 @@ use Rattle.state.specs.View.{entry}
 abbrev pub OffsetOf : (i at : ℕ) → Type 0
 OffsetOf i at = at ≡ 8 * i
 
--- the number in the 8 bytes from index a
-unfoldable pub long : List ℕ → ℕ → ℕ
-long b a = word b a + 4294967296 * word b (a + 4)
-
 -- the task in the 8 bytes from index a
 abbrev pub task_from : List ℕ → ℕ → Task ℕ
 task_from b a = record { number = half b a; place = half b (a + 2); parameter = signed (word b (a + 4)) }

@@ -1,4 +1,6 @@
-// The block that holds a state: checked, read and written.
+// The block that holds a state: checked, read and written. (kept: a byte offset that adds 8 for each record, with no product in it, as a
+// customer asked of the walks over the tasks. So five functions, `is_new`, `check_records`, `tasks_in`, `put_queue` and `put_unused`, keep an
+// offset, and `OffsetOf` ties it to the record's index, in their clauses or invariants.)
 
 #![tactic(auto)]
 
@@ -9,10 +11,11 @@ ghost use Rattle.rules.specs.Places.{is_place};
 ghost use Rattle.rules.specs.State.{issued_in, live_in, number_in, unlike, head_fits, task_fits, record_fits, check_records, check_block, task_in, variables_in, read_block, task_row, write_block};
 ghost use Rattle.table.specs.Refusals.{verdict_of};
 ghost use Rattle.state.specs.View.{task_of, no_task, view};
-ghost use Rattle.block.specs.Block.{OffsetOf, long, task_from, head_of, ring_rows, unused_rows, value_rows};
+ghost use Rattle.block.specs.Block.{OffsetOf, task_from, head_of, ring_rows, unused_rows, value_rows};
 
 use fields::{half_at, put_half, put_value, put_word, value_at, word_at};
 use state::{Queue, State, Task};
+use std::array;
 use table::check::{Accepted, Sort};
 use table::record::kind_at;
 use table::refusal::{Refusal, Rule};
@@ -54,17 +57,17 @@ fn is_new(block: &[u8; 520], i: usize, at: usize) -> bool
     true
 }
 
-// Whether index i of an accepted table is a place.
-fn is_place(table: Accepted, i: usize) -> bool
-    requires { i < 65536 }
-    ensures { result ≡ is_place (recipe_of table.entry.bytes.now) i }
+// Whether a number is a place of an accepted table.
+fn is_place(table: Accepted, place: u16) -> bool
+    ensures { result ≡ is_place (recipe_of table.entry.bytes.now) place }
 {
-    if i == 0 {
+    if place == 0 {
         return false;
     }
-    match kind_at(table.bytes, 8 * i) {
+    let start = 8 * usize::from(place);
+    match kind_at(table.bytes, start) {
         Some(kind) => kind.sort() != Sort::Expression,
-        None => 8 * i == table.bytes.len(),
+        None => start == table.bytes.len(),
     }
 }
 
@@ -79,15 +82,7 @@ fn task_fits(table: Accepted, block: &[u8; 520], i: usize, at: usize) -> bool
     1 <= number
         && number <= half_at(block, 0)
         && is_new(block, i, at)
-        && is_place(table, usize::from(half_at(block, at + 2)))
-}
-
-// The number in the 8 bytes from `at`.
-fn long_at(b: &[u8], at: usize) -> u64
-    requires { at + 8 ≤ length b.now }
-    ensures { result ≡ long b.now at }
-{
-    u64::from(word_at(b, at)) + 4294967296 * u64::from(word_at(b, at + 4))
+        && is_place(table, half_at(block, at + 2))
 }
 
 // Record i, at its offset.
@@ -102,7 +97,7 @@ fn record_fits(table: Accepted, block: &[u8; 520], i: usize, at: usize) -> bool
     if i <= usize::from(block[2]) {
         return task_fits(table, block, i, at);
     }
-    long_at(block, at) == 0
+    word_at(block, at) == 0 && word_at(block, at + 4) == 0
 }
 
 // The first faulty record.
@@ -140,7 +135,7 @@ pub fn check(table: Accepted, block: &[u8]) -> Result<(), Refusal>
     check_numbers(block)
 }
 
-// ---- reading
+// ---- reading (kept: the length in a clause of `read`, and of `write` below. C lends a slice of any length, which the caller has looked at.)
 
 // The task in the 8 bytes from `at`.
 fn task_at(block: &[u8; 520], at: usize) -> Task
@@ -166,8 +161,8 @@ fn tasks_in(block: &[u8; 520], n: usize) -> [Task; 32]
     };
     let mut tasks = [none; 32];
     let mut from: usize = 8;
-    for i in 0..n {
-        tasks[i] = task_at(block, from);
+    for task in &mut tasks[..n] {
+        *task = task_at(block, from);
         from += 8;
     }
     tasks
@@ -177,11 +172,7 @@ fn tasks_in(block: &[u8; 520], n: usize) -> [Task; 32]
 fn variables_in(block: &[u8; 520]) -> [i32; 64]
     ensures { result ≡ variables_in block.now }
 {
-    let mut variables = [0i32; 64];
-    for j in 0..64 {
-        variables[j] = value_at(block, 264 + 4 * j);
-    }
-    variables
+    array::from_fn(|j| value_at(block, 264 + 4 * j))
 }
 
 // What an accepted block says. An active task stands first in the array, and the ring's front behind it.
@@ -208,11 +199,11 @@ pub fn read(block: &[u8]) -> State
     }
 }
 
-// ---- writing (kept: the length in a clause. `write` is lent a slice: it would be made an array here, and a slice again at each put.)
+// ---- writing
 
 // The 8 bytes of a task.
-fn put_task(b: &mut [u8], at: usize, task: Task)
-    requires { at + 8 ≤ length b.old }
+fn put_task(b: &mut [u8; 520], at: usize, task: Task)
+    requires { at + 8 ≤ 520 }
     ensures { b.new ≡ sets b.old at (task_row (task_of task)) }
 {
     put_half(b, at, task.number);
@@ -221,8 +212,7 @@ fn put_task(b: &mut [u8], at: usize, task: Task)
 }
 
 // Record 0.
-fn put_head(b: &mut [u8], issued: u16, live: u8, taken: u8)
-    requires { length b.old ≡ 520 }
+fn put_head(b: &mut [u8; 520], issued: u16, live: u8, taken: u8)
     ensures { take 8 b.new ≡ head_of issued live taken }
 {
     put_half(b, 0, issued);
@@ -232,8 +222,8 @@ fn put_head(b: &mut [u8], issued: u16, live: u8, taken: u8)
 }
 
 // The records of the queue, from record `first` at the offset `start` on. Returns the offset of the record behind them.
-fn put_queue(b: &mut [u8], queue: &Queue, first: usize, start: usize) -> usize
-    requires room { (length b.old ≡ 520) × (first + queue.now.len ≤ 33) }
+fn put_queue(b: &mut [u8; 520], queue: &Queue, first: usize, start: usize) -> usize
+    requires room { first + queue.now.len ≤ 33 }
     requires offset { OffsetOf first start }
     ensures bytes { take result b.new ≡ take start b.old ++ ring_rows queue.now queue.now.len }
     ensures offset { OffsetOf (first + queue.now.len) result }
@@ -247,8 +237,8 @@ fn put_queue(b: &mut [u8], queue: &Queue, first: usize, start: usize) -> usize
 }
 
 // The records from `first`, at the offset `start`, to record 32: no task.
-fn put_unused(b: &mut [u8], first: usize, start: usize)
-    requires room { (length b.old ≡ 520) × (first ≤ 33) }
+fn put_unused(b: &mut [u8; 520], first: usize, start: usize)
+    requires within { first ≤ 33 }
     requires offset { OffsetOf first start }
     ensures { take 264 b.new ≡ take start b.old ++ unused_rows (33 - first) }
 {
@@ -261,8 +251,7 @@ fn put_unused(b: &mut [u8], first: usize, start: usize)
 }
 
 // Records 33 to 64.
-fn put_variables(b: &mut [u8], variables: &[i32; 64])
-    requires { length b.old ≡ 520 }
+fn put_variables(b: &mut [u8; 520], variables: &[i32; 64])
     ensures { b.new ≡ take 264 b.old ++ value_rows variables.now }
 {
     for (j, v) in variables.iter().enumerate() {
@@ -275,6 +264,9 @@ pub fn write(s: &State, block: &mut [u8])
     requires { length block.old ≡ 520 }
     ensures { block.new ≡ write_block (view s.now) }
 {
+    let Some(block) = block.as_mut_array::<520>() else {
+        unreachable!();
+    };
     let taken = u8::from(s.active.is_some());
     let live = s.queue.len + usize::from(taken);
     put_head(block, s.issued, live as u8, taken);

@@ -12,6 +12,7 @@ use Rattle.rules.specs.Steps.{recipes}
 use Rattle.rules.specs.Run.{room_of}
 use Rattle.rules.proofs.Scheduling.Loop.{At}
 use Rattle.rules.proofs.Fit.{Fit}
+use Rattle.moves.specs.declared.Move.{Move}
 use Rattle.events.specs.declared.Halt as E
 use Rattle.events.specs.Events.{halt_of}
 use Rattle.count.specs.declared.Count.{Count}
@@ -68,6 +69,11 @@ pub record Ended (r : Recipe) (u : Run (recipes r)) (given : List ℕ) (n : Coun
 abbrev pub noted : List ℕ → ℕ → Option Event → List ℕ
 noted log a none = log
 noted log a (some x) = sets log a (event_row x)
+
+-- the count, or the stop, without the move that is made
+abbrev pub counted : P.Result (Move × Count) Stop → P.Result Count Stop
+counted (P.Ok made) = P.Ok made.1
+counted (P.Err stop) = P.Err stop
 
 -- what the tests before a step say, as the code has it: the stop, or the new count and the new log
 abbrev pub Decides : (r : Recipe) → What (recipes r) → P.Result Count Stop → (n : Count) → (log log' : List ℕ) → Type 0

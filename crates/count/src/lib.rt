@@ -2,20 +2,21 @@
 
 #![tactic(auto)]
 
-ghost use Rattle.std.specs.Prelude.{◌≡◌, List, ℕ, suc, ◌-◌, ◌/◌, ◌≤◌, ◌<◌, length};
+ghost use Rattle.std.specs.Prelude.{◌≡◌, List, ℕ, suc, ◌-◌, ◌/◌, ◌≤◌, ◌<◌, length, IfOk};
 ghost use Rattle.std.proofs.Math.Option.{some};
 ghost use Rattle.rules.specs.Recipe.{Recipe};
 ghost use Rattle.rules.specs.State as R;
 ghost use Rattle.rules.specs.Scheduler.{goes, next_act, test, number_of};
 ghost use Rattle.rules.specs.Steps.{recipes};
-ghost use Rattle.moves.specs.Moves.{act_of};
+ghost use Rattle.moves.specs.Moves.{act_in};
 ghost use Rattle.events.specs.Events.{event_of};
-ghost use Rattle.count.specs.Along.{ending_of, halted_by, Decides};
+ghost use Rattle.count.specs.Along.{ending_of, halted_by, counted, Decides};
 
 use events::{Event, Halt, outcome_of, put_event};
 use moves::Move;
 
-// The steps made and the bytes of the log written.
+// The steps made and the bytes of the log written. (kept: the log goes beside it. Each contract is an equation about what the lent log ends as, and a struct
+// that borrows it would put that behind a second borrow.)
 #[derive(Clone, Copy)]
 pub struct Count {
     pub steps: u32,
@@ -49,7 +50,6 @@ impl From<Halt> for Stop {
         match halt {
             Halt::Tasks => Stop::Tasks,
             Halt::Spent => Stop::Spent,
-            Halt::NoValue => Stop::NoValue,
         }
     }
 }
@@ -86,19 +86,28 @@ pub fn note(e: Event, log: &mut [u8], n: Count) -> Result<Count, Stop>
     })
 }
 
-// The tests before a step of the active task, in their order: the count after the step, or the stop.
-pub fn decide(m: Move, number: u16, bounds: Bounds, log: &mut [u8], n: Count) -> Result<Count, Stop>
+// The tests before a step of the active task, in their order: the move and the count after the step, or the stop.
+pub fn decide(
+    m: Option<Move>,
+    number: u16,
+    bounds: Bounds,
+    log: &mut [u8],
+    n: Count,
+) -> Result<(Move, Count), Stop>
     requires { (n.written ≤ length log.old) × (n.steps ≤ bounds.budget) }
-    ensures { (x : Recipe) (s : R.Store) (q : List (R.Task ℕ)) (t : R.Task ℕ) → s.issued ≡ bounds.issued → length q ≡ bounds.queued → t.number ≡ number → Decides x (test (recipes x) (bounds.budget - n.steps) ((length log.old - n.written) / 8) (next_act (recipes x) q (act_of m s q t))) result n log.old log.new }
+    ensures decides { (x : Recipe) (s : R.Store) (q : List (R.Task ℕ)) (t : R.Task ℕ) → s.issued ≡ bounds.issued → length q ≡ bounds.queued → t.number ≡ number → Decides x (test (recipes x) (bounds.budget - n.steps) ((length log.old - n.written) / 8) (next_act (recipes x) q (act_in m s q t))) (counted result) n log.old log.new }
+    ensures made { IfOk result (λ r. m ≡ Some r.0) }
 {
     if n.steps == bounds.budget {
         return Err(Stop::Paused);
     }
-    match outcome_of(m, number, bounds.queued, bounds.issued)? {
-        Some(e) => note(e, log, n),
-        None => Ok(Count {
+    let m = m.ok_or(Stop::NoValue)?;
+    let after = match outcome_of(m, number, bounds.queued, bounds.issued)? {
+        Some(e) => note(e, log, n)?,
+        None => Count {
             steps: n.steps + 1,
             written: n.written,
-        }),
-    }
+        },
+    };
+    Ok((m, after))
 }

@@ -6,12 +6,12 @@ use Rattle.std.proofs.Math.Option.{Option, none, some}
 use Rattle.rules.specs.Fields.{bytes2, bytes4}
 use Rattle.rules.specs.State.{Task, Store}
 use Rattle.rules.specs.Log as L
-use Rattle.rules.specs.Scheduler.{Halt, tasks, spent, novalue, Act, halts, does}
+use Rattle.rules.specs.Scheduler.{Halt, tasks, spent, Act, halts, does}
 use Rattle.moves.specs.declared.Move.{Move}
 use Rattle.events.specs.declared.Event.{Event}
 use Rattle.events.specs.declared.Event.TheVariants.{Spawned, Taken, Gave, Waits, Turned, Ended, Valve}
 use Rattle.events.specs.declared.Halt as E
-use Rattle.events.specs.declared.Halt.TheVariants.{Tasks, Spent, NoValue}
+use Rattle.events.specs.declared.Halt.TheVariants.{Tasks, Spent}
 use Rattle.moves.specs.Moves.{act_of}
 
 abbrev pub event_of : Event → L.Event
@@ -31,7 +31,6 @@ pub data Facts : Type 0 where
 abbrev pub halt_of : E.Halt → Halt
 halt_of Tasks = tasks
 halt_of Spent = spent
-halt_of NoValue = novalue
 
 abbrev pub facts_of : P.Result (P.Option Event) E.Halt → Facts
 facts_of (P.Ok (P.Some e)) = went (some (event_of e))

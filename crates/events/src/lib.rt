@@ -27,15 +27,15 @@ pub enum Event {
 // The small facts of a step: it went on, with its log event if it has one, or the stop's name.
 pub type Outcome = Result<Option<Event>, Halt>;
 
-// The names of the stops of an active task's step.
+// The limits that stop an active task's move.
 #[derive(Clone, Copy)]
 pub enum Halt {
     Tasks,
     Spent,
-    NoValue,
 }
 
-// What a move of the task of this number comes to, with so many tasks queued and this number issued.
+// What a move of the task of this number comes to, with so many tasks queued and this number issued. (kept: 8, the first name behind the valves', as the table
+// has it.)
 pub fn outcome_of(m: Move, number: u16, queued: usize, issued: u16) -> Outcome
     ensures { Tells number queued issued m result }
 {
@@ -59,7 +59,6 @@ pub fn outcome_of(m: Move, number: u16, queued: usize, issued: u16) -> Outcome
         Move::Gives(_) => Event::Gave(number),
         Move::Waits(z) => Event::Waits(number, z),
         Move::Ends => Event::Ended(number),
-        Move::Lacks => return Err(Halt::NoValue),
     };
     Ok(Some(event))
 }
@@ -75,7 +74,7 @@ fn put_row(log: &mut [u8], at: usize, kind: u8, valve: u8, task: u16, word: u32)
     put_word(log, at + 4, word);
 }
 
-// The log record of an event, from the byte `at` on.
+// The log record of an event, from the byte `at` on. (kept: the numbers of the kinds, which stand in the log and here alone.)
 pub fn put_event(log: &mut [u8], at: usize, e: Event)
     requires { at + 8 ≤ length log.old }
     ensures { log.new ≡ sets log.old at (event_row (event_of e)) }

@@ -19,7 +19,7 @@ pub struct Env<'a> {
 }
 
 impl Env<'_> {
-    // A variable's value; name 64 is the task's own parameter.
+    // A variable's value; name 64 is the task's own parameter. (kept: a number, as the table has it.)
     pub fn variable(self, name: u8) -> i32
         requires { name ≤ 64 }
         ensures { result ≡ read (record { variables = self.entry.variables.now; parameter = self.entry.parameter }) name }
@@ -30,6 +30,9 @@ impl Env<'_> {
         self.variables[usize::from(name)]
     }
 }
+
+// A part goes as a slice, and that it spells an expression is a clause of three functions. (kept: what a record encloses is handed on as a slice; a struct
+// of slice and fact would be made anew at each operand.)
 
 // An operator with its operands. Without the first one's value it has none, whatever the second's; of the operators only a quotient by 0
 // has none.
@@ -47,7 +50,8 @@ fn operator(part: &[u8], env: Env) -> Option<i32>
     BinaryOperator::from(part[1]).apply(a, b)
 }
 
-// An operand: a constant or a variable is worked out in place, without a step of the recursion.
+// An operand: a constant or a variable is worked out in place, without a step of the recursion. What an operator gives is taken apart and made anew:
+// handed on as it is, whether it is there would be asked again beside the leaves that always are.
 #[cycle(operand_operator)]
 #[inline(always)]
 fn operand(part: &[u8], env: Env) -> Option<i32>
@@ -60,7 +64,7 @@ fn operand(part: &[u8], env: Env) -> Option<i32>
     if is(part, Kind::Variable) {
         return Some(env.variable(part[1]));
     }
-    operator(part, env)
+    Some(operator(part, env)?)
 }
 
 // The expression that a part starts with.

@@ -8,7 +8,7 @@ ghost use Rattle.rules.specs.Fields.{half, word, signed, bits, bytes2, bytes4};
 
 use values::{signed, unsigned};
 
-// Each width is a line over the library's own method, of which there is no trait over the widths: so they are not one generic function.
+// kept: each width is a line over the library's own method. The library has no trait over the widths, and one of our own would have the same six bodies.
 pub fn half_at(b: &[u8], at: usize) -> u16
     requires { at + 2 ≤ length b.now }
     ensures { result ≡ half b.now at }

@@ -13,9 +13,8 @@ use Rattle.rules.specs.Scheduler.{Readiness, ready, waits_for, at_guard, Rules, 
 use Rattle.rules.proofs.Scheduling.Lawful.{ready_when}
 use Rattle.rules.proofs.Scheduling.Bound.{count-append}
 use Rattle.rules.proofs.Scheduling.Induction.{idle_c, busy_c}
-use Rattle.state.specs.View.{turned}
+use Rattle.state.specs.View.{ahead, turned}
 use Rattle.state.proofs.Ring.{turned_more}
-use Rattle.ready.specs.Ready.{ahead}
 
 -- the try of a task that waits so is a turn, whose record carries z
 abbrev pub Turns : (R : Rules) → Readiness → ℤ → Type 0

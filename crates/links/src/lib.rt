@@ -5,6 +5,7 @@
 ghost use Rattle.std.specs.Prelude.{◌≡◌, ◌+◌, ◌≤◌, ◌<◌, length, set, replicate};
 ghost use Rattle.rules.specs.Table.{span_of, body_of, recipe_of};
 ghost use Rattle.rules.specs.Places.{nowhere, points_s, points_b, points_r};
+ghost use Rattle.links.specs.Linked.{Linked};
 ghost use Rattle.links.specs.Links.{linked, started, BodySpelt, first_of, place_after};
 
 use table::check::Accepted;
@@ -15,6 +16,14 @@ use table::record::{Kind, beyond, enclosed, kind_at, span_of};
 pub struct Links {
     pub next: [u16; 4096],
     pub starts: [u16; 256],
+}
+
+// An accepted table with its links.
+#[derive(Clone, Copy)]
+pub struct LinkedTable<'a> {
+    pub table: Accepted<'a>,
+    pub links: &'a Links,
+    ghost linked: { Linked (recipe_of table.bytes.now) links.now },
 }
 
 // An index as a place.
@@ -38,7 +47,7 @@ fn place_after(part: &[u8], at: usize, follow: u16) -> u16
     behind
 }
 
-// Links the first statement of a row and all that it encloses; `then` is the place after it. `left` bounds how deep the calls go.
+// (kept: a part with its index, as in the check.) Links the first statement of a row and all that it encloses; `then` is the place after it. `left` bounds how deep the calls go.
 #[cycle(link_body_link_statement)]
 fn link_statement(part: &[u8], at: usize, then: u16, left: usize, next: &mut [u16; 4096])
     requires { BodySpelt at left part.now × (0 < length part.now) }
@@ -63,7 +72,8 @@ fn link_body(part: &[u8], at: usize, follow: u16, left: usize, next: &mut [u16; 
 {
     let mut rest = part;
     let mut here = at;
-    // kept: the step to the next record is what this one encloses, which no range or library iterator says.
+    // kept: the step to the next record is what this one encloses, which no range or library iterator says; one of our own would carry the same part
+    // and index, and laws of its own.
     while 0 < rest.len() {
         link_statement(rest, here, place_after(rest, here, follow), left, next);
         here = here + 1 + span_of(rest);
@@ -77,7 +87,7 @@ fn link_body(part: &[u8], at: usize, follow: u16, left: usize, next: &mut [u16; 
 fn put_start(starts: &mut [u16], number: usize, first: u16)
     ensures { starts.new ≡ set starts.old number first }
 {
-    // kept: of a slice's `get_mut` the library says the length alone, and nothing of the elements.
+    // kept: of what a slice ends as behind `get_mut` the library says the length alone.
     if number < starts.len() {
         starts[number] = first;
     }
@@ -112,5 +122,13 @@ impl Links {
             at = end;
             number += 1;
         }
+    }
+
+    // An accepted table with its links, which are set.
+    pub fn link<'a>(&'a mut self, table: Accepted<'a>) -> LinkedTable<'a>
+        ensures { result.table.bytes.now ≡ table.entry.bytes.now }
+    {
+        self.set(table);
+        LinkedTable { table, links: self }
     }
 }

@@ -1,6 +1,7 @@
 -- What the active task does next, as the code says it.
 -- Assumes nothing.
-use Rattle.std.specs.Prelude.{ℕ, ◌≤◌, ◌≡◌, cond, List, [], eqb, ℤ, nat_abs, length, get_or}
+use Rattle.std.specs.Prelude as P
+use Rattle.std.specs.Prelude.{ℕ, ◌≤◌, ◌≡◌, cond, List, [], eqb, ℤ, nat_abs, length, get_or, IfSome}
 use Rattle.std.proofs.Math.Option.{none, some}
 use Rattle.rules.specs.Recipe.{Recipe, write}
 use Rattle.rules.specs.Table.{kind_of, value_of}
@@ -11,7 +12,7 @@ use Rattle.rules.specs.Log.{Event, gave, waits, ended}
 use Rattle.rules.specs.Scheduler.{on, back, over, novalue, Act, halts, does}
 use Rattle.rules.specs.Steps.{limits, valve_of, env_of, go_to, moves, spawn_at, act_at}
 use Rattle.moves.specs.declared.Move.{Move}
-use Rattle.moves.specs.declared.Move.TheVariants.{Goes, Sets, Spawns, Gives, Waits, Ends, Lacks}
+use Rattle.moves.specs.declared.Move.TheVariants.{Goes, Sets, Spawns, Gives, Waits, Ends}
 
 -- what each move does
 abbrev pub act_of : Move → Store → List (Task ℕ) → Task ℕ → Act Store (Task ℕ) Event
@@ -21,7 +22,11 @@ act_of (Spawns n p z k) s q t = spawn_at (limits (length q) s.issued) s t n p z 
 act_of (Gives k) s q t = does s [] (back (go_to t k)) (some (gave t.number))
 act_of (Waits z) s q t = does s [] (back t) (some (waits t.number z))
 act_of Ends s q t = does s [] over (some (ended t.number))
-act_of Lacks s q t = halts novalue
+
+-- of the move, if there is one: without one a value is missing
+abbrev pub act_in : P.Option Move → Store → List (Task ℕ) → Task ℕ → Act Store (Task ℕ) Event
+act_in P.None s q t = halts novalue
+act_in (P.Some m) s q t = act_of m s q t
 
 -- a move's name is that of a variable or of the parameter
 abbrev pub Named : Move → Type 0
@@ -31,19 +36,18 @@ Named (Spawns n p z k) = n ≤ 64
 Named (Gives k) = Unit {0}
 Named (Waits z) = Unit {0}
 Named Ends = Unit {0}
-Named Lacks = Unit {0}
 
 abbrev pub store_with : (issued : ℕ) → (variables : List ℤ) → Store
 store_with issued variables = record { issued = issued; variables = variables }
 
--- the move that the task t makes at the point x, with these variables, whatever number is issued and whoever is queued
-pub record Moves (begin : ℕ → ℕ) (x : Point ℕ) (variables : List ℤ) (t : Task ℕ) (m : Move) : Type 0 where
+-- the move, if there is one, that the task t makes at the point x, with these variables, whatever number is issued and whoever is queued
+pub record Moves (begin : ℕ → ℕ) (x : Point ℕ) (variables : List ℤ) (t : Task ℕ) (m : P.Option Move) : Type 0 where
   pub acts : (issued : ℕ) (q : List (Task ℕ))
-      → act_at begin limits x (store_with issued variables) q t ≡ act_of m (store_with issued variables) q t
-  pub named : Named m
+      → act_at begin limits x (store_with issued variables) q t ≡ act_in m (store_with issued variables) q t
+  pub named : IfSome m Named
 
 -- in a recipe, where t stands
-abbrev pub MovesIn : Recipe → (variables : List ℤ) → Task ℕ → Move → Type 0
+abbrev pub MovesIn : Recipe → (variables : List ℤ) → Task ℕ → P.Option Move → Type 0
 MovesIn r variables t m = Moves (start r) (at r t.place) variables t m
 
 -- a part that starts with a record of an accepted table
@@ -62,7 +66,7 @@ abbrev pub Begins : (begin : ℕ → ℕ) → (starts part : List ℕ) → Type 
 Begins begin starts p = kind_of p ≡ 6 → get_or starts (nat_abs (value_of p)) 0 ≡ begin (nat_abs (value_of p))
 
 -- the move at the statement at index i that a part starts with
-abbrev pub MovesAt : (starts part : List ℕ) → (i follow : ℕ) → (variables : List ℤ) → Task ℕ → Move → Type 0
+abbrev pub MovesAt : (starts part : List ℕ) → (i follow : ℕ) → (variables : List ℤ) → Task ℕ → P.Option Move → Type 0
 MovesAt starts p i follow variables t m =
     (begin : ℕ → ℕ) → Begins begin starts p → Moves begin (point_at p i follow) variables t m
 

@@ -14,7 +14,8 @@ use fields::{half_at, word_at};
 use runner::{Answer, run, start};
 use text::{put_ending, put_kind, put_number, put_value, put_word};
 
-// A line of a log record. (kept: a lent buffer and the index in it, as in `text`.)
+// A line of a log record. (kept: a lent buffer and the index in it, as in `text`. `print_recipe` promises that its buffer of 131,072 bytes
+// starts with the text and is as it was behind it; an `ArrayString` would have to be copied into it.)
 fn put_line(b: &mut [u8], at: usize, kind: u8, task: u16, valve: u8, value: u32) -> usize
     requires { at + 30 ≤ length b.old }
     ensures puts { Puts b.old at (line kind task valve (signed value)) result b.new }
@@ -27,25 +28,24 @@ fn put_line(b: &mut [u8], at: usize, kind: u8, task: u16, valve: u8, value: u32)
     put_word(b, z, b"\n")
 }
 
-// The line of the log record from the byte `from` on.
-fn put_record(b: &mut [u8], at: usize, log: &[u8], from: usize) -> usize
-    requires from_in_bounds { from + 8 ≤ length log.now }
+// The line of the log record that these bytes are.
+fn put_record(b: &mut [u8], at: usize, bytes: &[u8]) -> usize
+    requires whole { length bytes.now ≡ 8 }
     requires at_in_bounds { at + 30 ≤ length b.old }
-    ensures puts { Puts b.old at (line_at log.now from) result b.new }
+    ensures puts { Puts b.old at (line_at bytes.now 0) result b.new }
     ensures upper_bound { result ≤ at + 30 }
 {
-    let kind = log[from];
-    let valve = log[from + 1];
     put_line(
         b,
         at,
-        kind,
-        half_at(log, from + 2),
-        valve,
-        word_at(log, from + 4),
+        bytes[0],
+        half_at(bytes, 2),
+        bytes[1],
+        word_at(bytes, 4),
     )
 }
 
+// The lines of the first so many records of a log.
 fn put_lines(b: &mut [u8], log: &[u8], records: usize) -> usize
     requires in_log { 8 * records ≤ length log.now }
     requires in_buffer { 30 * records ≤ length b.old }
@@ -53,8 +53,8 @@ fn put_lines(b: &mut [u8], log: &[u8], records: usize) -> usize
     ensures upper_bound { result ≤ 30 * records }
 {
     let mut at: usize = 0;
-    for i in 0..records {
-        at = put_record(b, at, log, 8 * i);
+    for record in log.chunks_exact(8).take(records) {
+        at = put_record(b, at, record);
     }
     at
 }
@@ -78,7 +78,8 @@ fn put_refused(b: &mut [u8], at: usize, number: u32, place: u32) -> usize
     put_word(b, i, b"\n")
 }
 
-// Whether a run ended with this number, and was not refused. (kept: the numbers of the answer that C callers get.)
+// Whether a run ended with this number, and was not refused. (kept: these are the numbers of the answer of `runner::run`, and the 0 in
+// `put_text` is one of `start`'s: their form is prescribed for C.)
 fn is_ending(number: u32) -> bool
     ensures { result ≡ ends number }
 {

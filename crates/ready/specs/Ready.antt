@@ -1,15 +1,15 @@
 -- Which queued tasks are ready, as the code says it.
 -- Assumes nothing.
-use Rattle.std.specs.Prelude.{ℕ, suc, ◌≡◌, Bool, true, false, Option, None, Some, nat_lt, length, cond, List, [], ◌∷◌, ℤ, pos, negsuc}
+use Rattle.std.specs.Prelude.{ℕ, ◌≡◌, true, false, Option, None, Some, List, ℤ, pos, negsuc}
 use Rattle.std.proofs.Math.Option.{none}
 use Rattle.rules.specs.Recipe.{Recipe}
 use Rattle.rules.specs.Table.{recipe_of}
 use Rattle.rules.specs.Places.{is_place}
 use Rattle.rules.specs.State.{Task, State}
-use Rattle.rules.specs.Scheduler.{Readiness, ready, waits_for, at_guard, is_live, readiness, can_go, is_ready}
+use Rattle.rules.specs.Scheduler.{Readiness, ready, waits_for, at_guard, is_live, readiness, can_go}
 use Rattle.rules.specs.Steps.{is_done, recipes}
 use Rattle.rules.specs.Fairness.{Every}
-use Rattle.state.specs.View.{task_of, entry, queue_of, store_of}
+use Rattle.state.specs.View.{task_of, entry, queue_of, store_of, ahead, first}
 use Rattle.state.specs.declared.State as S
 use Rattle.state.specs.declared.Queue.{Queue}
 use Rattle.ready.specs.declared.Wait.{Wait}
@@ -35,16 +35,12 @@ abbrev pub NotDone : (table : List ℕ) → State → ℤ → Type 0
 NotDone table c z = is_done c.store.issued (is_live (recipes (recipe_of table)) c.queue) z ≡ false
 
 -- how many tasks stand before the first that can go on: all of them, if none can
-abbrev pub ahead : {T : Type 0} → (T → Bool) → List T → ℕ
-ahead go [] = 0
-ahead go (t ∷ ts) = cond (go t) 0 (suc (ahead go ts))
-
 abbrev pub ahead_in : (table : List ℕ) → State → ℕ
 ahead_in table c = ahead (can_go (recipes (recipe_of table)) c) c.queue
 
 -- the first task that can go on, by how many stand before it; none, if none can
 abbrev pub first_in : (table : List ℕ) → State → Option ℕ
-first_in table c = cond (nat_lt (ahead_in table c) (length c.queue)) (Some (ahead_in table c)) None
+first_in table c = first (can_go (recipes (recipe_of table)) c) c.queue
 
 -- the number that a value is, if it is one
 abbrev pub natural : ℤ → Option ℕ
@@ -59,11 +55,6 @@ pub record Describes (table : List ℕ) (s : S.State) (i : ℕ) (x : Queued) : T
 -- a task stands at a place of the recipe
 abbrev pub Placed : Recipe → Task ℕ → Type 0
 Placed r t = is_place r t.place ≡ true
-
--- a task waits, in some state
-pub record Held (table : List ℕ) (t : Task ℕ) : Type 0 where
-  pub state : State
-  pub waits : is_ready (ready_in table state t) ≡ false
 
 -- every queued task stands at a place of the table's recipe
 abbrev pub Waiting : (table : List ℕ) → Queue → Type 0

@@ -11,14 +11,16 @@ ghost use Rattle.rules.specs.State as R;
 ghost use Rattle.rules.specs.Scheduler.{is_live, is_ready, can_go};
 ghost use Rattle.rules.specs.Steps.{is_done, recipes, go_to, past_at};
 ghost use Rattle.state.specs.View.{task_of, entry, queue_of};
-ghost use Rattle.ready.specs.Ready.{readiness_of, idle, ready_in, first_in, natural, Describes, NotDone, Placed, Held, Waiting};
-ghost use Rattle.links.specs.Linked.{Leads};
+ghost use Rattle.ready.specs.Ready.{readiness_of, idle, ready_in, first_in, natural, Describes, NotDone, Placed, Waiting};
 
 use expr::{Env, eval};
-use links::Links;
+use links::LinkedTable;
 use state::{State, Task};
 use table::check::Accepted;
 use table::record::{Kind, enclosed, from, is, kind_at};
+
+// A state goes beside the table that it runs, and that its tasks stand at places is said in clauses, here and above. (kept: a state is another one after each
+// step, so a struct of both would be made anew each time.)
 
 #[derive(Clone, Copy)]
 pub enum Wait {
@@ -32,18 +34,6 @@ pub enum Wait {
 pub struct Queued {
     pub task: Task,
     pub wait: Wait,
-}
-
-// Whether a queued task has this number.
-fn is_live(s: &State, number: u16) -> bool
-    ensures { (x : Recipe) → result ≡ is_live (recipes x) (queue_of s.now.queue) number }
-{
-    for i in 0..s.queue.len {
-        if s.queue.task(i).number == number {
-            return true;
-        }
-    }
-    false
 }
 
 // The number that a value is, if it is one.
@@ -60,20 +50,17 @@ fn is_done(s: &State, v: i32) -> bool
     let Some(number) = natural(v) else {
         return false;
     };
-    if number == 0 || u32::from(s.issued) < number {
-        return false;
-    }
-    !is_live(s, number as u16)
+    number != 0 && number <= u32::from(s.issued) && s.queue.position(number).is_none()
 }
 
 // Whether a task at a guard is ready: whether its expression is true now, with the task's own parameter. Without a value it is untrue.
-fn guarded(table: Accepted, t: Task, variables: &[i32; 64]) -> Wait
+fn guarded(table: Accepted, s: &State, t: Task) -> Wait
     requires { Placed (recipe_of table.bytes.now) (task_of t) × (kind_there table.bytes.now (8 * t.place) ≡ Some Kind.Guard) }
-    ensures { (c : R.State) → c.store.variables ≡ variables.now → readiness_of result ≡ ready_in table.entry.bytes.now c (task_of t) }
+    ensures { readiness_of result ≡ ready_in table.entry.bytes.now (idle s.now) (task_of t) }
 {
     let part = from(table.bytes, 8 * usize::from(t.place));
     let env = Env {
-        variables,
+        variables: &s.variables,
         parameter: t.parameter,
     };
     match eval(enclosed(part), env) {
@@ -101,22 +88,22 @@ fn wait_of(table: Accepted, s: &State, t: Task, known: Option<i32>) -> Wait
             }
             Wait::Waits(v)
         }
-        Some(Kind::Guard) => guarded(table, t, &s.variables),
+        Some(Kind::Guard) => guarded(table, s, t),
         _ => Wait::Ready,
     }
 }
 
 // What a task waits for, of which it is known that it waits.
-fn held_by(table: Accepted, t: Task, variables: &[i32; 64]) -> Wait
-    requires { Placed (recipe_of table.bytes.now) (task_of t) × Held table.bytes.now (task_of t) }
-    ensures { (c : R.State) → c.store.variables ≡ variables.now → is_ready (ready_in table.entry.bytes.now c (task_of t)) ≡ false → readiness_of result ≡ ready_in table.entry.bytes.now c (task_of t) }
+fn held_by(table: Accepted, s: &State, t: Task) -> Wait
+    requires { Placed (recipe_of table.bytes.now) (task_of t) × (is_ready (ready_in table.bytes.now (idle s.now) (task_of t)) ≡ false) }
+    ensures { readiness_of result ≡ ready_in table.entry.bytes.now (idle s.now) (task_of t) }
 {
     let record = from(table.bytes, 8 * usize::from(t.place));
     if is(record, Kind::Guard) {
         return Wait::AtGuard;
     }
     let env = Env {
-        variables,
+        variables: &s.variables,
         parameter: t.parameter,
     };
     Wait::Waits(env.variable(record[1]))
@@ -130,7 +117,7 @@ pub fn waiting_at(table: Accepted, s: &State, i: usize) -> Queued
     let task = s.queue.task(i);
     Queued {
         task,
-        wait: held_by(table, task, &s.variables),
+        wait: held_by(table, s, task),
     }
 }
 
@@ -158,13 +145,13 @@ pub fn first_ready(table: Accepted, s: &State) -> Option<usize>
 }
 
 // The place of a task that becomes active: past its await or its guard, if it stood at one.
-pub fn past(table: Accepted, links: &Links, place: u16) -> u16
-    requires { (is_place (recipe_of table.bytes.now) place ≡ true) × Leads (recipe_of table.bytes.now) links.now.next }
-    ensures { (t : R.Task ℕ) → t.place ≡ place → past_at (at (recipe_of table.entry.bytes.now) place) t ≡ go_to t result }
+pub fn past(linked: LinkedTable, place: u16) -> u16
+    requires { is_place (recipe_of linked.table.bytes.now) place ≡ true }
+    ensures { (t : R.Task ℕ) → t.place ≡ place → past_at (at (recipe_of linked.entry.table.bytes.now) place) t ≡ go_to t result }
 {
     let i = usize::from(place);
-    match kind_at(table.bytes, 8 * i) {
-        Some(Kind::Await | Kind::Guard) => links.next[i],
+    match kind_at(linked.table.bytes, 8 * i) {
+        Some(Kind::Await | Kind::Guard) => linked.links.next[i],
         _ => place,
     }
 }

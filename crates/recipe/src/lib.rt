@@ -43,13 +43,13 @@ pub extern "C" fn recipe_why_stuck(table: &[u8], state: &[u8], chain: &mut [u8])
     why_stuck(table, state, chain)
 }
 
+// 0 where the batch is checked. (kept: a number, as C reads it.)
 #[unsafe(no_mangle)]
 pub extern "C" fn recipe_check_all(recipes: &[u8], lengths: &[u8], outcomes: &mut [u8]) -> u32
     ensures outcomes_after { checked result outcomes.new ≡ check_all_on recipes.now lengths.now outcomes.old }
     ensures batch_says { BatchSays recipes.now lengths.now outcomes.old (checked result outcomes.new) }
 {
-    match check_all(recipes, lengths, outcomes) {
-        Ok(()) => 0,
-        Err(no_batch) => no_batch.into(),
-    }
+    check_all(recipes, lengths, outcomes)
+        .err()
+        .map_or(0, u32::from)
 }

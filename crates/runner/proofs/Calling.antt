@@ -15,19 +15,21 @@ use Rattle.rules.specs.Places.{is_place}
 use Rattle.rules.specs.State as R
 use Rattle.rules.specs.State.{fresh, head_fits, record_fits, check_records, check_block, read_block, write_block}
 use Rattle.rules.specs.Log.{log_bytes}
-use Rattle.rules.specs.Scheduler.{Rules, number_of, Run, end, step, run, steps_of, log}
+use Rattle.rules.specs.Scheduler.{Rules, novalue, halted, number_of, Run, end, step, run, ending, last, steps_of, log}
 use Rattle.rules.specs.Steps.{recipes}
-use Rattle.rules.specs.Run.{Outcome, start_on, place_of, room_of, refusal, outcome, open_on, run_on}
+use Rattle.rules.specs.Run.{Outcome, start_on, stands_at, place_of, room_of, refusal, outcome, open_on, run_on}
 use Rattle.rules.specs.Demand.{Bytes, Chained, Continues}
 use Rattle.rules.proofs.Verdicts.{else_fine, cond-fine}
 use Rattle.rules.specs.Answers.{RunAnswers, RunSays, StartAnswers, StartSays}
 use Rattle.rules.proofs.Answers.{run-answers, start-answers}
 use Rattle.rules.proofs.Says.{run-says, start-says}
 use Rattle.rules.proofs.Demand.{chain_meets, continued}
+use Rattle.rules.proofs.Scheduling.Endings.{by_number}
+use Rattle.rules.proofs.NoValue.{bars}
 use Rattle.std.specs.Prelude.{Option, None, Some}
 use Rattle.state.specs.declared.Task.{Task}
 use Rattle.state.specs.declared.State.{State}
-use Rattle.state.specs.View.{store_of, active_of, queue_of, view}
+use Rattle.state.specs.View.{task_of, store_of, active_of, queue_of, view}
 use Rattle.count.specs.declared.Stop.{Stop}
 use Rattle.count.specs.declared.Stop.TheVariants.{Finished, Paused, Stuck, Tasks, Spent, Logfull, NoValue}
 use Rattle.runner.specs.declared.Answer.{Answer}
@@ -87,6 +89,20 @@ module _ {t : List ℕ} {s : State} {n : ℕ} {l l' : List ℕ} {x : Ran} (d : D
 
   pub records_fit : x.count.written / 8 ≤ x.count.steps
   records_fit = let b = d.ended.bytes in let k = d.ended.steps_are in omega (arith, log-steps (recipes (recipe_of t)) u)
+
+  -- where a missing value ends it, it has an active task, and that one stands at the record named
+  pub stands : ending (recipes (recipe_of t)) u ≡ halted novalue
+      → (task : Task) × (x.state.active ≡ Some task) × (stands_at (last (recipes (recipe_of t)) u).active ≡ task.place)
+  stands h =
+      let r = recipe_of t in
+      let c = last (recipes r) u in
+      let b = bars r c.store c.active c.queue novalue ((by_number (recipes r) n (room_of l) (view s) (halted novalue)).0 (ap number_of h)).1 in
+      let is : active_of x.state.active ≡ some b.task = ap (λ (d : R.State). d.active) (sym d.ended.leaves) ∙ b.acts in
+      rw b.acts (found x.state.active b.task is)
+    where
+      found : (a : Option Task) (t : R.Task ℕ) → active_of a ≡ some t → (task : Task) × (a ≡ Some task) × (t.place ≡ task.place)
+      found (Some task) t e = (task, refl, let z : task_of task ≡ t = cc in ap (λ (y : R.Task ℕ). y.place) (sym z))
+      found None t e = absurd (let z : ◌≡◌ {A = ℕ} 0 1 = cc in omega arith)
 
   pub answers : (number place : ℕ) (block : List ℕ) → number ≡ number_of (ending_of x.stop) → place ≡ place_of (ending_of x.stop) (view x.state)
       → block ≡ write_block (view x.state)

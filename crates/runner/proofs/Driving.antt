@@ -16,17 +16,15 @@ use Rattle.rules.specs.Scheduler.{Run}
 use Rattle.rules.specs.Steps.{recipes, go_to, past_at}
 use Rattle.rules.specs.Fairness.{Every}
 use Rattle.rules.proofs.Lists.{every_append}
-use Rattle.rules.proofs.Fit.{TaskFit}
+use Rattle.rules.proofs.Fit.{TaskFit, Fit}
 use Rattle.state.specs.declared.Task.{Task}
 use Rattle.state.specs.declared.State.{State}
 use Rattle.state.specs.View.{task_of, entry, queue_of, store_of, view, put_back, take_up, turned, turn}
 use Rattle.state.proofs.Ring.{front_rest}
 use Rattle.state.proofs.Views.{queue-length}
-use Rattle.links.specs.declared.Links.{Links}
-use Rattle.links.specs.Linked.{Linked}
 use Rattle.ready.specs.Ready.{idle}
 use Rattle.moves.specs.declared.Move.{Move}
-use Rattle.moves.specs.declared.Move.TheVariants.{Goes, Sets, Spawns, Gives, Waits, Ends, Lacks}
+use Rattle.moves.specs.declared.Move.TheVariants.{Goes, Sets, Spawns, Gives, Waits, Ends}
 use Rattle.count.specs.declared.Count.{Count}
 use Rattle.count.specs.declared.Bounds.{Bounds}
 use Rattle.count.specs.declared.Stop.{Stop}
@@ -37,7 +35,7 @@ use Rattle.active.specs.Active.{leaves, busy, left_by, Active, Left}
 use Rattle.idle.specs.declared.Tried as Tries-all
 use Rattle.idle.specs.Idle.{took_up, Tries}
 use Rattle.idle.proofs.Turning.{turned-length}
-use Rattle.runner.specs.Drive.{Driving, call}
+use Rattle.runner.specs.Drive.{call}
 
 -- the state as the code holds it, by whether a task is active
 abbrev pub busy_of : State → Task → R.State
@@ -63,7 +61,6 @@ puts_back_else (Spawns n p z k) c h s e = absurd (s n p z k refl)
 puts_back_else (Gives k) c h s e = refl
 puts_back_else (Waits z) c h s e = refl
 puts_back_else Ends c h s e = absurd (e refl)
-puts_back_else Lacks c h s e = absurd (false≢true h)
 
 -- where none is turned
 pub no_turn : (n : ℕ) (s : State) → n ≡ 0 → view s ≡ turn n (view s)
@@ -107,8 +104,8 @@ module _ {s s' : State} {k : ℕ} (g : Turned s k s') where
       omega (arith, l, queue-length s.queue)
 
 module _ {table : List ℕ} {s₀ : State} {budget : ℕ} {log₀ : List ℕ} where
-  pub driven_start : (links : Links) → Driving table links s₀ → Driven table s₀ budget log₀ s₀ (record { steps = 0; written = 0 }) log₀
-  driven_start links d = record { along = along-start (recipe_of table) budget log₀ (view s₀) _ refl refl d.fits }
+  pub driven_start : Fit (recipe_of table) (view s₀) → Driven table s₀ budget log₀ s₀ (record { steps = 0; written = 0 }) log₀
+  driven_start fits = record { along = along-start (recipe_of table) budget log₀ (view s₀) _ refl refl fits }
 
   module _ {s : State} {n : Count} {log : List ℕ} (d : Driven table s₀ budget log₀ s n log) where
     along-busy : (t : Task) → s.active ≡ Some t → Along (recipe_of table) (call table s₀ budget log₀) budget log₀ n log (busy_of s t)
@@ -117,9 +114,8 @@ module _ {table : List ℕ} {s₀ : State} {budget : ℕ} {log₀ : List ℕ} wh
     along-idle : s.active ≡ None → Along (recipe_of table) (call table s₀ budget log₀) budget log₀ n log (idle s)
     along-idle h = subst (Along (recipe_of table) (call table s₀ budget log₀) budget log₀ n log) (idle-view s h) d.along
 
-    pub to_proceed : {links : Links} {t : Task} → Linked (recipe_of table) links → s.active ≡ Some t → Active table links (bounds_in s budget) log (task_of t) s.variables n
-    to_proceed {links} {t} l h = record {
-      linked = l;
+    pub to_proceed : {t : Task} → s.active ≡ Some t → Active table (bounds_in s budget) log (task_of t) s.variables n
+    to_proceed {t} h = record {
       queue = queue_of s.queue;
       many = queue-length s.queue;
       reached = record { call = call table s₀ budget log₀; given = log₀; along = along-busy t h };

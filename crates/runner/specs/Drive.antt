@@ -5,18 +5,10 @@ use Rattle.rules.specs.Table.{recipe_of}
 use Rattle.rules.specs.Scheduler.{Run, run}
 use Rattle.rules.specs.Steps.{recipes}
 use Rattle.rules.specs.Run.{room_of}
-use Rattle.rules.proofs.Fit.{Fit}
 use Rattle.state.specs.declared.State.{State}
 use Rattle.state.specs.View.{view}
-use Rattle.links.specs.declared.Links.{Links}
-use Rattle.links.specs.Linked.{Linked}
 use Rattle.runner.specs.declared.drive.Ran.{Ran}
 use Rattle.count.specs.Along.{ending_of, Ended}
-
--- a table's links, and an accepted state
-pub record Driving (table : List ℕ) (links : Links) (s : State) : Type 0 where
-  pub linked : Linked (recipe_of table) links
-  pub fits : Fit (recipe_of table) (view s)
 
 -- the definition's run of a state
 abbrev pub call : (table : List ℕ) → State → (budget : ℕ) → (log : List ℕ) → Run (recipes (recipe_of table))

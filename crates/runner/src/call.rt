@@ -32,8 +32,7 @@ pub fn carry_out(table: Accepted, state: &mut [u8], budget: u32, log: &mut [u8])
     ensures { outcome_of result state.new log.new ≡ outcome (recipe_of table.entry.bytes.now) (run (recipes (recipe_of table.entry.bytes.now)) budget (room_of log.old) (read_block state.old)) log.old }
 {
     let mut links = Links::none();
-    links.set(table);
-    let ran = drive(table, &links, block::read(state), budget, log);
+    let ran = drive(links.link(table), block::read(state), budget, log);
     block::write(&ran.state, state);
     let place = match (ran.stop, ran.state.active) {
         (Stop::NoValue, Some(task)) => u32::from(task.place),

@@ -1,2 +1,3 @@
+pub mod First
 pub mod Ring
 pub mod Views

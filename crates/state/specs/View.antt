@@ -1,6 +1,6 @@
 -- How the code's State stands for a state of the definitions.
 -- Assumes nothing.
-use Rattle.std.specs.Prelude.{ℕ, zero, suc, ◌+◌, ◌%◌, List, [], ◌∷◌, ◌++◌, ℤ, pos, get_or}
+use Rattle.std.specs.Prelude.{ℕ, zero, suc, ◌+◌, ◌%◌, Bool, eqb, nat_lt, cond, List, [], ◌∷◌, ◌++◌, length, ℤ, pos, get_or}
 use Rattle.std.proofs.Math.Option.{Option, none, some}
 use Rattle.rules.specs.State as R
 use Rattle.rules.specs.State.{Store, tab}
@@ -27,6 +27,19 @@ entry q i = task_of (get_or q.tasks (ring q.front i) no_task)
 -- the queued tasks, from the front on
 unfoldable pub queue_of : Queue → List (R.Task ℕ)
 queue_of q = tab q.len (entry q)
+
+-- how many of a list stand before the first of which this holds: all of them, if it holds of none
+abbrev pub ahead : {T : Type 0} → (T → Bool) → List T → ℕ
+ahead p [] = 0
+ahead p (t ∷ ts) = cond (p t) 0 (suc (ahead p ts))
+
+-- the first of which this holds, by how many stand before it; none, if it holds of none
+abbrev pub first : {T : Type 0} → (T → Bool) → List T → P.Option ℕ
+first p ts = cond (nat_lt (ahead p ts) (length ts)) (P.Some (ahead p ts)) P.None
+
+-- the task that has this number
+abbrev pub position : ℕ → List (R.Task ℕ) → P.Option ℕ
+position n q = first (λ t. eqb n t.number) q
 
 abbrev pub store_of : State → Store
 store_of s = record { issued = s.issued; variables = s.variables }

@@ -28,7 +28,7 @@ impl Task {
     }
 }
 
-// The tasks that wait for their turn, as a ring: `len` of them, the front at the index `front`.
+// The tasks that wait for their turn, as a ring: `len` of them, the front at the index `front`. (kept: the kit's only ring is on the heap.)
 #[derive(Clone, Copy)]
 pub struct Queue {
     pub tasks: [Task; 32],
@@ -40,7 +40,7 @@ pub struct Queue {
 
 impl Queue {
     ghost use Rattle.std.specs.Prelude.{[], ◌∷◌, ◌++◌, drop};
-    ghost use Rattle.state.specs.View.{task_of, entry, queue_of, turned};
+    ghost use Rattle.state.specs.View.{task_of, entry, queue_of, position, turned};
 
     // Task i from the front.
     pub fn task(&self, i: usize) -> Task
@@ -48,6 +48,18 @@ impl Queue {
         ensures { task_of result ≡ entry self.now i }
     {
         self.tasks[(self.front + i) % 32]
+    }
+
+    // The index from the front of the task that has this number, if one has it.
+    pub fn position(&self, number: u32) -> Option<usize>
+        ensures { result ≡ position number (queue_of self.now) }
+    {
+        for i in 0..self.len {
+            if u32::from(self.task(i).number) == number {
+                return Some(i);
+            }
+        }
+        None
     }
 
     // With a task at the back.
@@ -104,6 +116,8 @@ pub struct State {
     ghost few: { IsSome active → queue.len < 32 },
 }
 
+// Each method builds the new state as a literal: assigned to the variable that held the old one, it copies the queue where a task is stored
+// in it, and nothing else.
 impl State {
     ghost use Rattle.rules.specs.State as R;
     ghost use Rattle.rules.specs.Steps.{go_to};

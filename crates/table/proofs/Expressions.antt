@@ -15,7 +15,7 @@ use Rattle.rules.specs.Table.{kind_of, span_of, inner, after, kind_row, Sort, ex
 use Rattle.rules.proofs.Verdicts.{and_true}
 use Rattle.rules.proofs.Grammar.Checking.{Right, right-ends, right-span, right-whole, unless_none, unless-some, operands, length-inner, length-after}
 use Rattle.table.specs.declared.refusal.Rule.{Rule}
-use Rattle.table.specs.declared.refusal.Rule.TheVariants.{TableLength, Kind, Span, Name, Value, Depth, Procedure, BlockLength, StateRecord, LiveTasks}
+use Rattle.table.specs.declared.refusal.Rule.TheVariants.{TableLength, Kind, Span, Name, Value, Depth, Procedure, BlockLength, StateRecord, LiveTasks, NoChain}
 use Rattle.table.specs.Refusals.{rule_number}
 use Rattle.table.specs.Check.{levelled, Part}
 
@@ -50,6 +50,7 @@ rule-some Procedure h = absurd (omega arith)
 rule-some BlockLength h = absurd (omega arith)
 rule-some StateRecord h = absurd (omega arith)
 rule-some LiveTasks h = absurd (omega arith)
+rule-some NoChain h = absurd (omega arith)
 
 module _ (d i : ℕ) (ends : Ends) (p : List ℕ) where
   pub expr_own : (r : Rule) → rule_number r ≡ record_fault expression ends p → fault (rule_number r) i ≡ check_e d i ends p

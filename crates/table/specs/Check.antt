@@ -11,6 +11,7 @@ use Rattle.table.specs.declared.check.Ends.TheVariants.{AtEnd, BeforeEnd, Within
 use Rattle.table.specs.declared.check.Encloses.{Encloses}
 use Rattle.table.specs.declared.check.Encloses.TheVariants.{Nothing, Statements, OneExpression, ExpressionStatements, TwoExpressions}
 use Rattle.table.specs.declared.refusal.Rule.{Rule}
+use Rattle.table.specs.declared.refusal.Refusal.{Refusal}
 use Rattle.table.specs.Refusals.{rule_number}
 
 -- the enums
@@ -36,6 +37,11 @@ abbrev pub fault_of : {K : Type 0} → Result K Rule → ℕ
 fault_of (Ok kind) = 0
 fault_of (Err rule) = rule_number rule
 
+-- the same of a refusal
+abbrev pub fault_in : {K : Type 0} → Result K Refusal → ℕ
+fault_in (Ok kind) = 0
+fault_in (Err refusal) = rule_number refusal.rule
+
 -- the fields of the first record of a part, and the part's length
 pub record Fields (p : List ℕ) (kind name span value len : ℕ) : Type 0 where
   pub kind_is : kind ≡ kind_of p
@@ -57,6 +63,13 @@ pub record Part (i : ℕ) (p : List ℕ) : Type 0 where
 pub data OfRow : T.Sort → Type 0 where
   procedures : OfRow T.procedure
   statements : OfRow T.statement
+
+-- a part at index i that starts with an operator, whose record breaks no rule of its own
+pub record OfOperator (i : ℕ) (p : List ℕ) : Type 0 where
+  pub part : Part i p
+  pub ends : T.Ends
+  pub right : record_fault T.expression ends p ≡ 0
+  pub operator : 11 ≤ kind_of p
 
 -- what the first record of a part encloses
 abbrev pub enclosing : List ℕ → T.Encloses

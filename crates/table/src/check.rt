@@ -1,11 +1,11 @@
 // The check of a table: accepted, or the rule that is broken and the place of the earliest fault.
-ghost use Rattle.std.specs.Prelude.{◌≡◌, true, ◌&&◌, leb, List, ℕ, ◌+◌, ◌*◌, ◌≤◌, ◌<◌, length, IfOk};
+ghost use Rattle.std.specs.Prelude.{◌≡◌, true, ◌&&◌, leb, List, ℕ, ◌+◌, ◌*◌, ◌≤◌, ◌<◌, length, IfOk, IfErr};
 ghost use Rattle.rules.specs.Fields.{signed};
-ghost use Rattle.rules.specs.Table.{is_of, ends_fit, span_fits, value_fits, kind_row, kind_of, span_of, record_fault, check_e, check_rows, check_spawns, names_none, procedures, records, length_fits, fine, check};
+ghost use Rattle.rules.specs.Table.{is_of, ends_fit, span_fits, value_fits, kind_row, kind_of, span_of, record_fault, enclosed, check_e, check_rows, check_spawns, names_none, procedures, records, length_fits, fine, check};
 ghost use Rattle.rules.specs.Demand.{Bytes};
 ghost use Rattle.table.specs.Kinds.{number_of};
 ghost use Rattle.table.specs.Refusals.{verdict_of};
-ghost use Rattle.table.specs.Check.{sort_of, ends_of, encloses_of, fault_of, Fields, Part, Row, OfRow, enclosing, head_of};
+ghost use Rattle.table.specs.Check.{sort_of, ends_of, encloses_of, fault_of, fault_in, Fields, Part, Row, OfRow, OfOperator, enclosing, head_of};
 
 use crate::record::{Kind, beyond, enclosed, from, kind_at, span_of, word_of};
 use crate::refusal::{Refusal, Rule};
@@ -84,7 +84,7 @@ impl Kind {
 }
 
 impl Encloses {
-    // How many records follow at least where a record encloses this; or none.
+    // Whether a record that encloses this may enclose so many records.
     fn span_fits(self, span: usize) -> bool
         ensures { result ≡ span_fits (encloses_of self) span }
     {
@@ -124,9 +124,7 @@ fn fields_kind(
     ensures fault { (p : List ℕ) → Fields p number name span value len → fault_of result ≡ record_fault (sort_of sort) (ends_of ends) p }
     ensures kind { IfOk result (λ kind. number ≡ number_of kind) }
 {
-    let Ok(kind) = Kind::try_from(number) else {
-        return Err(Rule::Kind);
-    };
+    let kind = Kind::try_from(number)?;
     if kind.sort() != sort {
         return Err(Rule::Kind);
     }
@@ -142,11 +140,13 @@ fn fields_kind(
     Ok(kind)
 }
 
-// The kind of the first record of a part, or the first rule that it breaks.
+// The kind of the first record of a part, or the first rule that it breaks; at is its place in the table. (kept: the place beside the part, and what is asked
+// of both in clauses. What a record encloses is handed on as a slice; a struct of the two would be made anew at each record.)
 #[inline(always)]
-fn record_kind(part: &[u8], sort: Sort, ends: Ends) -> Result<Kind, Rule>
-    requires { 8 ≤ length part.now }
-    ensures fault { fault_of result ≡ record_fault (sort_of sort) (ends_of ends) part.now }
+fn record_kind(part: &[u8], sort: Sort, at: usize, ends: Ends) -> Result<Kind, Refusal>
+    requires { Part at part.now }
+    ensures fault { fault_in result ≡ record_fault (sort_of sort) (ends_of ends) part.now }
+    ensures place { IfErr result (λ refusal. refusal.place ≡ at) }
     ensures kind { IfOk result (λ kind. kind_of part.now ≡ number_of kind) }
 {
     fields_kind(
@@ -158,30 +158,41 @@ fn record_kind(part: &[u8], sort: Sort, ends: Ends) -> Result<Kind, Rule>
         sort,
         ends,
     )
+    .map_err(|rule| rule.at(at))
 }
 
-// The expression that a part starts with, with so many levels left for it; at is its place in the table.
+// The expression that a part starts with, with so many levels left for it; at is its place in the table. A constant or a variable is checked in
+// place, without a step of the recursion.
+#[cycle(expr_operands)]
+#[inline(always)]
 fn check_expr(part: &[u8], at: usize, left: usize, ends: Ends) -> Result<(), Refusal>
     requires { Part at part.now }
     ensures { verdict_of result ≡ check_e left at (ends_of ends) part.now }
 {
-    let kind = match record_kind(part, Sort::Expression, ends) {
-        Ok(kind) => kind,
-        Err(rule) => return Err(rule.at(at)),
-    };
+    let kind = record_kind(part, Sort::Expression, at, ends)?;
     if left == 0 {
         return Err(Rule::Depth.at(at));
     }
     match kind {
-        Kind::Unary => check_expr(enclosed(part), at + 1, left - 1, Ends::AtEnd),
-        Kind::Binary => {
-            let inner = enclosed(part);
-            check_expr(inner, at + 1, left - 1, Ends::BeforeEnd)?;
-            let next = at + 2 + span_of(inner);
-            check_expr(beyond(inner), next, left - 1, Ends::AtEnd)
-        }
+        Kind::Unary | Kind::Binary => check_operands(kind, part, at, left - 1),
         _ => Ok(()),
     }
+}
+
+// The operands of an operator, with so many levels left for each. The last one's check is one call for both kinds, since it is inlined.
+#[cycle(expr_operands)]
+fn check_operands(kind: Kind, part: &[u8], at: usize, left: usize) -> Result<(), Refusal>
+    requires { OfOperator at part.now × (kind_of part.now ≡ number_of kind) }
+    ensures { verdict_of result ≡ enclosed (check_e left) (λ j q. fine) (enclosing part.now) at part.now }
+{
+    let mut last = enclosed(part);
+    let mut next = at + 1;
+    if let Kind::Binary = kind {
+        check_expr(last, next, left, Ends::BeforeEnd)?;
+        next += 1 + span_of(last);
+        last = beyond(last);
+    }
+    check_expr(last, next, left, Ends::AtEnd)
 }
 
 // The first record of a row, with the expression that it encloses if any: what it encloses.
@@ -190,10 +201,7 @@ fn check_head(part: &[u8], sort: Sort, at: usize, left: usize) -> Result<Enclose
     ensures verdict { verdict_of result ≡ head_of (sort_of sort) left at part.now }
     ensures encloses { IfOk result (λ e. encloses_of e ≡ enclosing part.now) }
 {
-    let kind = match record_kind(part, sort, Ends::Within) {
-        Ok(kind) => kind,
-        Err(rule) => return Err(rule.at(at)),
-    };
+    let kind = record_kind(part, sort, at, Ends::Within)?;
     if left == 0 {
         return Err(Rule::Depth.at(at));
     }
@@ -215,7 +223,7 @@ fn check_rows(part: &[u8], sort: Sort, at: usize, left: usize) -> Result<(), Ref
 {
     let mut off: usize = 0;
     let mut i = at;
-    // kept: the step to the next record is what this one encloses, once it is checked, which no range or library iterator says.
+    // kept: the step to the next record is what this one encloses, once it is checked, which no range or iterator can say before.
     while off < part.len() {
         let rest = from(part, off);
         match check_head(rest, sort, i, left)? {

@@ -1,8 +1,10 @@
-// Why a table or a state block is refused, and where.
+// Why a call is refused, and where.
 ghost use Rattle.std.specs.Prelude.{◌≡◌, ◌≤◌};
 ghost use Rattle.table.specs.Refusals.{rule_number};
 
-// The rules that a table or a block can break.
+use crate::record::NoKind;
+
+// The rules that a table or a block can break, and that a chain is asked for where there is none.
 #[derive(Clone, Copy, PartialEq, Eq)]
 pub enum Rule {
     TableLength,
@@ -15,9 +17,10 @@ pub enum Rule {
     BlockLength,
     StateRecord,
     LiveTasks,
+    NoChain,
 }
 
-// The rule broken, and the record at fault; 0 where none is.
+// The rule broken, and the record at fault; 0 where none is, as the published list has it.
 #[derive(Clone, Copy, PartialEq, Eq)]
 pub struct Refusal {
     pub rule: Rule,
@@ -40,7 +43,16 @@ impl From<Rule> for u32 {
             Rule::BlockLength => 21,
             Rule::StateRecord => 22,
             Rule::LiveTasks => 23,
+            Rule::NoChain => 25,
         }
+    }
+}
+
+impl From<NoKind> for Rule {
+    ghost from_gives = { λ none result. rule_number result ≡ 12 };
+
+    fn from(_: NoKind) -> Self {
+        Rule::Kind
     }
 }
 

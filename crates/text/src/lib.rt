@@ -10,8 +10,8 @@ ghost use Rattle.text.specs.Puts.{Puts};
 use itoa::{Buffer, Integer};
 use values::signed;
 
-// Each `put` writes a text from the byte `at` on and gives the index behind it. (kept: a lent buffer and an index. It is not on the heap, and of `write!` the
-// library says what it wrote only where it succeeds, so that no text could be promised.)
+// Each `put` writes a text from the byte `at` on and gives the index behind it. (kept: a lent buffer and an index. `print_recipe` promises what the buffer that
+// it is lent holds; a text of its own, as `ArrayString`, would be copied there, and of `write!` the library says what it wrote only where it succeeds.)
 pub fn put_word(b: &mut [u8], at: usize, word: &[u8]) -> usize
     requires { at + length word.now ≤ length b.old }
     ensures { Puts b.old at word.now result b.new }

@@ -116,7 +116,7 @@ fn try_run(
     print_last(rt, log)
 }
 
-// Paused, or the log is full.
+// Paused, or the log is full. (kept: the numbers of the answer that C callers get.)
 fn goes_on(number: u32) -> bool {
     matches!(number, 1 | 5)
 }
@@ -131,7 +131,7 @@ fn try_on(
 ) -> io::Result<()> {
     let mut steps: u64 = 0;
     let mut number: u32 = 1;
-    for call in 0..MOST_CALLS {
+    for _ in 0..MOST_CALLS {
         let a = run(table, state, budget, log);
         number = a.number;
         steps += u64::from(a.steps);
@@ -159,10 +159,9 @@ fn try_batch(
     lengths: &[u8],
     outcomes: &mut [u8],
 ) -> io::Result<()> {
-    let number = match check_all(recipes, lengths, outcomes) {
-        Ok(()) => 0,
-        Err(no_batch) => no_batch.into(),
-    };
+    let number = check_all(recipes, lengths, outcomes)
+        .err()
+        .map_or(0, u32::from);
     print(rt, u64::from(number))?;
     print_last(rt, outcomes)
 }

@@ -1,5 +1,5 @@
 // Values of 32 bits that stop at the ends of their range: each exact result is worked out in 64 bits, where it fits.
-// A name in a contract is a definition of `rules`, also where a function here has the same name.
+// Where a contract has the name of a function here, it means the definition of `rules`.
 
 #![tactic(auto)]
 

@@ -1,7 +1,7 @@
 -- What holds a task that waits for a number: the queued task of that number, by its index.
 -- Assumes nothing.
 use Prim.Native.Nat.{ℕ, suc, ◌≤◌, ◌<◌}
-use mathlib.Core.Path.{◌≡◌, refl, sym, ap, ◌∙◌, subst, subst⁻¹}
+use mathlib.Core.Path.{◌≡◌, refl, sym, ap, ◌∙◌, fun_ext, subst⁻¹}
 use mathlib.Core.Bool.{Bool, true, false, cond}
 use mathlib.Core.Option.{none, some}
 use mathlib.Core.List.{List, [], ◌∷◌}
@@ -9,8 +9,8 @@ use native.Mathlib.Omega.{arith}
 use lib.Dec.{ltb}
 use lib.IntN.{ℤ}
 use lib.ListN.{length, get_or}
-use borrow.Author.Tests.{ltb-true, ltb-false, le-ltb, lt-ltb}
-use Rattle.std.specs.Prelude.{Option, None, Some, Result, Ok, Err}
+use borrow.Author.Tests.{ltb-true, ltb-false, le-ltb}
+use Rattle.std.specs.Prelude.{Option, None, Some, Ok, Err}
 use Rattle.std.specs.Option.{ok_or}
 use Rattle.rules.specs.Recipe.{Recipe}
 use Rattle.rules.specs.State.{Task}
@@ -19,11 +19,11 @@ use Rattle.rules.specs.Steps.{recipes}
 use Rattle.rules.specs.Why.{is_number, holder, go_on}
 use Rattle.rules.proofs.Lists.{length-tab, get_or-tab}
 use Rattle.state.specs.declared.Queue.{Queue}
-use Rattle.state.specs.View.{entry, queue_of}
-use Rattle.ready.specs.Ready.{ahead}
-use Rattle.ready.proofs.Queue.{ahead_all, ahead_at}
+use Rattle.state.specs.View.{entry, queue_of, ahead, first, position}
+use Rattle.ready.specs.Ready.{natural}
 use Rattle.why.specs.declared.follow.End.TheVariants as E
 use Rattle.why.specs.Follow.{of_number, index_in, Holds}
+use Rattle.why.proofs.Naming.{no_number, number_is}
 
 module _ (r : Recipe) (z : ℤ) where
   abbrev before : List (Task ℕ) → ℕ
@@ -46,20 +46,24 @@ module _ (r : Recipe) (z : ℤ) where
       go true h ih = absurd (omega arith)
       go false h ih = ih (omega arith)
 
+-- the number that a value is, is looked for; a value that is none is no task's number
+first_same : {T : Type 0} (p p' : T → Bool) → ((t : T) → p t ≡ p' t) → (q : List T) → first p q ≡ first p' q
+first_same p p' e q = ap (λ f. first f q) (fun_ext e)
+
+pub index-number : (z : ℤ) (n : ℕ) (q : List (Task ℕ)) → natural z ≡ Some n → position n q ≡ index_in z q
+index-number z n q h = first_same _ _ (λ t. sym (number_is z n t.number h)) q
+
+pub index_none : (z : ℤ) (q : List (Task ℕ)) → natural z ≡ None → None ≡ index_in z q
+index_none z q h = none_first q ∙ first_same _ _ (λ t. sym (no_number z t.number h)) q
+  where
+    none_first : (q : List (Task ℕ)) → None ≡ first (λ t. false) q
+    none_first q = rw (all q, le-ltb (length q) (length q) (omega arith)) refl
+      where
+        all : (q : List (Task ℕ)) → ahead (λ t. false) q ≡ length q
+        all [] = refl
+        all (t ∷ q) = ap suc (all q)
+
 module _ (q : Queue) (z : ℤ) where
-  -- the task of this number, as index_in finds it
-  pub found_at : (i : ℕ) → i < q.len → ((j : ℕ) → j < i → of_number z (entry q j) ≡ false) → of_number z (entry q i) ≡ true → Some i ≡ index_in z (queue_of q)
-  unfolding queue_of
-  found_at i h before here =
-      let e = ahead_at (of_number z) (entry q) q.len i h before here in
-      rw (e, length-tab (entry q) q.len, lt-ltb i q.len h) refl
-
-  pub found_none : ((j : ℕ) → j < q.len → of_number z (entry q j) ≡ false) → None ≡ index_in z (queue_of q)
-  unfolding queue_of
-  found_none before =
-      let e = ahead_all (of_number z) (entry q) q.len before in
-      rw (e, length-tab (entry q) q.len, le-ltb q.len q.len (omega arith)) refl
-
   -- where the index is known, what holds a task
   held_at : (i : ℕ) → ahead (of_number z) (queue_of q) ≡ i → i < q.len → Holds q (waits_for z) (Ok i)
   unfolding queue_of

@@ -1,6 +1,6 @@
 -- The chain of a stuck state, as the code has it.
 -- Assumes nothing.
-use Rattle.std.specs.Prelude.{ℕ, suc, ◌<◌, ◌≡◌, Bool, false, nat_lt, cond, List, [], length, ℤ, Result, Ok, Err, IfOk}
+use Rattle.std.specs.Prelude.{ℕ, suc, ◌<◌, ◌≡◌, Bool, false, List, [], ℤ, Result, Ok, Err, IfOk}
 use Rattle.std.specs.Prelude as P
 use Rattle.std.proofs.Math.Option.{Option, some}
 use Rattle.rules.specs.Recipe.{Recipe}
@@ -14,8 +14,8 @@ use Rattle.rules.specs.Why as W
 use Rattle.rules.specs.Why.{chain, is_number, behind, follow}
 use Rattle.state.specs.declared.Queue.{Queue}
 use Rattle.state.specs.declared.State.{State}
-use Rattle.state.specs.View.{entry, queue_of}
-use Rattle.ready.specs.Ready.{idle, ahead, Waiting}
+use Rattle.state.specs.View.{entry, queue_of, first}
+use Rattle.ready.specs.Ready.{idle, Waiting}
 use Rattle.why.specs.declared.follow.End.{End}
 use Rattle.why.specs.declared.follow.Chain.{Chain}
 use Rattle.why.specs.declared.follow.End.TheVariants as E
@@ -34,7 +34,7 @@ abbrev pub of_number : ℤ → Task ℕ → Bool
 of_number z t = is_number z t.number
 
 abbrev pub index_in : ℤ → List (Task ℕ) → P.Option ℕ
-index_in z q = cond (nat_lt (ahead (of_number z) q) (length q)) (P.Some (ahead (of_number z) q)) P.None
+index_in z q = first (of_number z) q
 
 -- how a chain goes on behind these numbers, by what holds the last task
 abbrev pub goes_on : Queue → (Task ℕ → Option W.Chain) → List ℕ → Result ℕ End → Option W.Chain

@@ -34,13 +34,7 @@ pub struct Chain {
 fn index_of(s: &State, v: i32) -> Option<usize>
     ensures { result ≡ index_in v (queue_of s.now.queue) }
 {
-    let number = natural(v)?;
-    for i in 0..s.queue.len {
-        if u32::from(s.queue.task(i).number) == number {
-            return Some(i);
-        }
-    }
-    None
+    s.queue.position(natural(v)?)
 }
 
 // What holds a task that waits so: a queued task, by its index; or the end of the chain.

@@ -24,7 +24,7 @@ use runner::call::verdict;
 use runner::drive::drive;
 use state::State;
 use table::check::Accepted;
-use table::refusal::Refusal;
+use table::refusal::{Refusal, Rule};
 
 // 0, the task numbers written, how the chain ends (1 to 3) and 0; or why there is none, 0, 0 and the faulty record. (kept: numbers, as
 // C reads them.)
@@ -41,19 +41,12 @@ impl From<Refusal> for Explained {
     ghost from_gives = { λ refusal result. (l : List ℕ) → explained_of result l ≡ unexplained (rule_number refusal.rule) refusal.place l };
 
     fn from(refusal: Refusal) -> Self {
-        unexplained(refusal.rule.into(), refusal.place)
-    }
-}
-
-// A refusal.
-fn unexplained(number: u32, place: u32) -> Explained
-    ensures { (l : List ℕ) → explained_of result l ≡ unexplained number place l }
-{
-    Explained {
-        number,
-        count: 0,
-        end: 0,
-        place,
+        Explained {
+            number: refusal.rule.into(),
+            count: 0,
+            end: 0,
+            place: refusal.place,
+        }
     }
 }
 
@@ -77,9 +70,8 @@ fn is_stuck(table: Accepted, s: State) -> bool
     ensures { (result ≡ true) ↔ Stuck (recipes (recipe_of table.entry.bytes.now)) (view s) }
 {
     let mut links = Links::none();
-    links.set(table);
     let mut log = [0u8; 8];
-    drive(table, &links, s, 0, &mut log).stop == Stop::Stuck
+    drive(links.link(table), s, 0, &mut log).stop == Stop::Stuck
 }
 
 // Writes numbers, two bytes each.
@@ -98,7 +90,7 @@ fn explain(table: Accepted, s: State, chain: &mut [u8]) -> Explained
     ensures { explained_of result chain.new ≡ why_with (opens (recipe_of table.entry.bytes.now) (view s)) chain.old }
 {
     if chain.len() != 66 || !is_stuck(table, s) {
-        return unexplained(25, 0);
+        return Rule::NoChain.at(0).into();
     }
     let x = follow(table, &s);
     put_numbers(chain, &x.numbers);

@@ -11,7 +11,7 @@ use Rattle.block.proofs.put_queue.Goals as goal
 
 pub loop-i-init : goal.loop-i-init
 unfolding joined
-loop-i-init c = (omega arith, sym (append-nil _))
+loop-i-init c = (omega arith, omega arith, sym (append-nil _))
 
 pub loop-i-preserved : goal.loop-i-preserved
 unfolding task_row
@@ -20,4 +20,4 @@ loop-i-preserved c =
     let l = c.loop-i in
     let f : ℕ → List ℕ = λ i. task_row (entry a.queue.now i) in
     let e : c.put_task.new.b ≡ sets l.b l.to (f l.i) = c.put_task.ensures ∙ ap (sets l.b l.to) (ap task_row c.task.ensures) in
-    (omega arith, rw e (joined_more l.b (take a.start a.b.now) f l.i l.to 8 (f l.i) refl (omega arith) l.invariant.1 refl))
+    (omega arith, omega arith, rw e (joined_more l.b (take a.start a.b.now) f l.i l.to 8 (f l.i) refl (omega arith) l.invariant.2 refl))

@@ -15,7 +15,7 @@ use Rattle.block.proofs.put_variables.Goals as goal
 
 pub loop-j-init : goal.loop-j-init
 unfolding joined
-loop-j-init c = sym (append-nil _)
+loop-j-init c = (omega arith, sym (append-nil _))
 
 pub loop-j-preserved : goal.loop-j-preserved
 loop-j-preserved c =
@@ -28,10 +28,10 @@ loop-j-preserved c =
     let z = result32 {z = v} m in
     let e : c.put_value.new.b ≡ sets l.b at (f l.j) = c.put_value.ensures ∙ rw z in
     let n : 264 + 4 * (l.j + 1) ≡ at + 4 = omega arith in
-    rw (n, e) (joined_more l.b (take 264 a.b.now) f l.j at 4 (f l.j) refl (omega arith) l.invariant refl)
+    (omega arith, rw (n, e) (joined_more l.b (take 264 a.b.now) f l.j at 4 (f l.j) refl (omega arith) l.invariant.1 refl))
 
 pub returns : goal.returns
 returns c =
     let l = c.loop-j in
     let e : l.j ≡ 64 = omega arith in
-    sym (take_all 520 l.b (omega arith)) ∙ (rw e at l.invariant)
+    sym (take_all 520 l.b (omega arith)) ∙ (rw e at l.invariant.1)

@@ -1,8 +1,8 @@
-use mathlib.Core.Path.{ap, ◌∙◌}
-use Prim.Native.Nat.{ℕ}
+use mathlib.Core.Path.{refl, ◌∙◌}
 use native.Mathlib.Omega.{arith}
-use lib.Dec.{eqb}
-use Rattle.block.specs.Block.{long}
+use borrow.Author.Tests.{ne_eqb}
+use Rattle.rules.specs.Table.{recipe_of}
+use Rattle.rules.specs.Places.{is_place}
 use Rattle.block.proofs.Checking.{record_zero, record_used, record_unused}
 use Rattle.block.proofs.record_fits.Goals as goal
 
@@ -16,8 +16,14 @@ returns-then-i-from c =
     let a = c.args in
     c.task_fits.ensures ∙ record_used _ a.block.now a.i c.if-i-eq0.false (omega arith)
 
-pub returns : goal.returns
-returns c =
+pub returns-then-word_at-eq0 : goal.returns-then-word_at-eq0
+returns-then-word_at-eq0 c =
     let a = c.args in
-    ap (λ (x : ℕ). eqb x 0) (c.long_at.ensures ∙ ap (long a.block.now) c.requires.offset)
-    ∙ record_unused _ a.block.now a.i c.if-i-eq0.false (omega arith)
+    rw c.if-word_at-eq0.true
+    at (record_unused (is_place (recipe_of a.table.bytes.now)) a.block.now a.i c.if-i-eq0.false (omega arith) c.requires.offset c.word_at.ensures c.word_at-then-word_at-eq0.ensures)
+
+pub returns-else-word_at-eq0 : goal.returns-else-word_at-eq0
+returns-else-word_at-eq0 c =
+    let a = c.args in
+    let used = ne_eqb c.word_at.result 0 c.if-word_at-eq0.false in
+    used ∙ (rw used at (record_unused (is_place (recipe_of a.table.bytes.now)) a.block.now a.i c.if-i-eq0.false (omega arith) c.requires.offset c.word_at.ensures refl))

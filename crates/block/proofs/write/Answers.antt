@@ -4,7 +4,7 @@ use native.Mathlib.Omega.{arith}
 use mir.Val.{bool_byte}
 use Rattle.block.proofs.Writing.{taken_of, taken_is, room, Fronted, with_none, with_active, written}
 use Rattle.block.proofs.write.Goals as goal
-use Rattle.block.proofs.write.Goals.{in-Some, in_default}
+use Rattle.block.proofs.write.Goals.{in-Some-active, in_default-active}
 
 pub returns : goal.returns
 returns c =
@@ -15,8 +15,8 @@ returns c =
     let taken : c.from-taken.result ≡ k = c.from-taken.ensures ∙ ap bool_byte c.is_some.ensures ∙ taken_is s.active in
     let live : n + c.from.result ≡ k + n = omega arith in
     let front : Fronted s.issued n s.active c.match-s.next c.match-s.block = elim c.match-s.branch [
-      | in-Some w ↦ with_active _ _ _ _ _ _ _ _ live taken c.put_head.ensures w.in-Some.task w.in-Some.is (omega arith) w.next-is (w.block-is ∙ w.put_task.ensures)
-      | in_default w ↦ with_none _ _ _ _ _ _ _ _ live taken c.put_head.ensures w.in_default.is w.next-is w.block-is
+      | in-Some-active w ↦ with_active _ _ _ _ _ _ _ _ live taken c.put_head.ensures w.in-Some-active.task w.in-Some-active.is (omega arith) w.next-is (w.block-is ∙ w.put_task.ensures)
+      | in_default-active w ↦ with_none _ _ _ _ _ _ _ _ live taken c.put_head.ensures w.in_default-active.is w.next-is w.block-is
     ] in
     let all : k + n + (33 - (n + c.from.result + 1)) ≡ 32 = omega arith in
     written s c.match-s.next c.put_queue-end.result c.match-s.block c.put_queue-end.new.b c.put_unused.new.b c.put_variables.new.b

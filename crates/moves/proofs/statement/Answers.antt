@@ -30,66 +30,66 @@ read_back {v} f e = ap some (result32 {z = v} f) ∙ e
 pub returns-in_err-eval-in-Set : goal.returns-in_err-eval-in-Set
 returns-in_err-eval-in-Set c =
     let a = c.args in
-    let n : kind_of a.part.now ≡ 3 = rw c.in-Set.is at c.requires.1 in
+    let n : kind_of a.found.part.now ≡ 3 = rw c.in-Set.is at a.found.named in
     rw c.from_residual.ensures
-    (λ t e begin b. lacks-moves begin _ t a.part.now a.place _ (omega (arith, n)) (omega (arith, n)) (valued a.part.now _ c.enclosed.ensures e c.in_err-eval-in-Set.ensures))
+    (λ t e begin b. lacks-moves begin _ t a.found.part.now a.found.place _ (omega (arith, n)) (omega (arith, n)) (valued a.found.part.now _ c.enclosed.ensures e c.in_err-eval-in-Set.ensures))
 
 pub returns-in-Skip : goal.returns-in-Skip
 returns-in-Skip c =
     let a = c.args in
-    let n : kind_of a.part.now ≡ 2 = rw c.in-Skip.is at c.requires.1 in
-    λ t e begin b. skip-moves begin _ t a.part.now a.place _ n
+    let n : kind_of a.found.part.now ≡ 2 = rw c.in-Skip.is at a.found.named in
+    λ t e begin b. skip-moves begin _ t a.found.part.now a.found.place _ n
 
 pub returns-in_ok-eval-in-Set : goal.returns-in_ok-eval-in-Set
 returns-in_ok-eval-in-Set c =
     let a = c.args in
-    let n : kind_of a.part.now ≡ 3 = rw c.in-Set.is at c.requires.1 in
-    λ t e begin b. set-moves begin _ t a.part.now a.place _ _ (read_back (omega arith) (valued a.part.now _ c.enclosed.ensures e c.in_ok-eval-in-Set.ensures)) n c.requires.0.stands.named
+    let n : kind_of a.found.part.now ≡ 3 = rw c.in-Set.is at a.found.named in
+    λ t e begin b. set-moves begin _ t a.found.part.now a.found.place _ _ (read_back (omega arith) (valued a.found.part.now _ c.enclosed.ensures e c.in_ok-eval-in-Set.ensures)) n c.requires.0.stands.named
 
 pub returns-in-Suspend : goal.returns-in-Suspend
 returns-in-Suspend c =
     let a = c.args in
-    let n : kind_of a.part.now ≡ 7 = rw c.in-Suspend.is at c.requires.1 in
-    λ t e begin b. give_moves begin _ t a.part.now a.place _ n
+    let n : kind_of a.found.part.now ≡ 7 = rw c.in-Suspend.is at a.found.named in
+    λ t e begin b. give_moves begin _ t a.found.part.now a.found.place _ n
 
 pub returns-in-Await : goal.returns-in-Await
 returns-in-Await c =
     let a = c.args in
-    let n : kind_of a.part.now ≡ 8 = rw c.in-Await.is at c.requires.1 in
-    λ t e begin b. wait-moves begin _ t a.part.now a.place _ _ n
-    (result32 {z = c.variable.result} c.variable.type_inv ∙ c.variable.ensures ∙ ap (λ (z : ℤ). read (record { variables = a.env.variables.now; parameter = z }) (name_of a.part.now)) (sym e))
+    let n : kind_of a.found.part.now ≡ 8 = rw c.in-Await.is at a.found.named in
+    λ t e begin b. wait-moves begin _ t a.found.part.now a.found.place _ _ n
+    (result32 {z = c.variable.result} c.variable.type_inv ∙ c.variable.ensures ∙ ap (λ (z : ℤ). read (record { variables = a.env.variables.now; parameter = z }) (name_of a.found.part.now)) (sym e))
 
 pub returns-in-Guard : goal.returns-in-Guard
 returns-in-Guard c =
     let a = c.args in
-    let n : kind_of a.part.now ≡ 13 = rw c.in-Guard.is at c.requires.1 in
-    λ t e begin b. guard-moves begin _ t a.part.now a.place _ n
+    let n : kind_of a.found.part.now ≡ 13 = rw c.in-Guard.is at a.found.named in
+    λ t e begin b. guard-moves begin _ t a.found.part.now a.found.place _ n
 
 pub returns-in_err-v-in-Spawn : goal.returns-in_err-v-in-Spawn
 returns-in_err-v-in-Spawn c =
     let a = c.args in
-    let n : kind_of a.part.now ≡ 6 = rw c.in-Spawn.is at c.requires.1 in
+    let n : kind_of a.found.part.now ≡ 6 = rw c.in-Spawn.is at a.found.named in
     rw c.from_residual-in_err-v-in-Spawn.ensures
-    (λ t e begin b. lacks-moves begin _ t a.part.now a.place _ (omega (arith, n)) (omega (arith, n)) (valued a.part.now _ c.enclosed-in-Spawn.ensures e c.in_err-v-in-Spawn.ensures))
+    (λ t e begin b. lacks-moves begin _ t a.found.part.now a.found.place _ (omega (arith, n)) (omega (arith, n)) (valued a.found.part.now _ c.enclosed-in-Spawn.ensures e c.in_err-v-in-Spawn.ensures))
 
 pub returns-in_ok-v-in-Spawn : goal.returns-in_ok-v-in-Spawn
 returns-in_ok-v-in-Spawn c =
     let a = c.args in
-    let n : kind_of a.part.now ≡ 6 = rw c.in-Spawn.is at c.requires.1 in
-    λ t e begin b. spawn-moves begin _ t a.part.now a.place _ _ (read_back (omega arith) (valued a.part.now _ c.enclosed-in-Spawn.ensures e c.in_ok-v-in-Spawn.ensures)) _ n c.requires.0.stands.named
+    let n : kind_of a.found.part.now ≡ 6 = rw c.in-Spawn.is at a.found.named in
+    λ t e begin b. spawn-moves begin _ t a.found.part.now a.found.place _ _ (read_back (omega arith) (valued a.found.part.now _ c.enclosed-in-Spawn.ensures e c.in_ok-v-in-Spawn.ensures)) _ n c.requires.0.stands.named
     (ap (λ (i : ℕ). get_or a.links.now.starts i 0) (c.word_of.ensures.0 ∙ procedure-is c.requires.0 n) ∙ b n)
 
 pub returns-in_err-eval-in_default : goal.returns-in_err-eval-in_default
 returns-in_err-eval-in_default c =
     let a = c.args in
     let d = c.in_default in
-    let n = test_kind (kind_of a.part.now) a.kind c.requires.1 c.requires.4 c.requires.3 d.not-Skip d.not-Set d.not-Spawn d.not-Suspend d.not-Await d.not-Guard in
+    let n = test_kind (kind_of a.found.part.now) a.found.kind a.found.named c.requires.2 c.requires.1 d.not-Skip d.not-Set d.not-Spawn d.not-Suspend d.not-Await d.not-Guard in
     rw c.from_residual-in_err-eval-in_default.ensures
-    (λ t e begin b. lacks-moves begin _ t a.part.now a.place _ (omega (arith, n)) (omega (arith, n)) (valued a.part.now _ c.enclosed-in_default.ensures e c.in_err-eval-in_default.ensures))
+    (λ t e begin b. lacks-moves begin _ t a.found.part.now a.found.place _ (omega (arith, n)) (omega (arith, n)) (valued a.found.part.now _ c.enclosed-in_default.ensures e c.in_err-eval-in_default.ensures))
 
 pub returns-in_ok-eval-in_default : goal.returns-in_ok-eval-in_default
 returns-in_ok-eval-in_default c =
     let a = c.args in
     let d = c.in_default in
-    let n = test_kind (kind_of a.part.now) a.kind c.requires.1 c.requires.4 c.requires.3 d.not-Skip d.not-Set d.not-Spawn d.not-Suspend d.not-Await d.not-Guard in
-    λ t e begin b. test-moves begin _ t a.part.now a.place _ _ (read_back (omega arith) (valued a.part.now _ c.enclosed-in_default.ensures e c.in_ok-eval-in_default.ensures)) _ n c.branch-branch.ensures
+    let n = test_kind (kind_of a.found.part.now) a.found.kind a.found.named c.requires.2 c.requires.1 d.not-Skip d.not-Set d.not-Spawn d.not-Suspend d.not-Await d.not-Guard in
+    λ t e begin b. test-moves begin _ t a.found.part.now a.found.place _ _ (read_back (omega arith) (valued a.found.part.now _ c.enclosed-in_default.ensures e c.in_ok-eval-in_default.ensures)) _ n c.branch-branch.ensures

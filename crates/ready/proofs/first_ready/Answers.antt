@@ -17,10 +17,11 @@ use Rattle.rules.specs.Scheduler.{is_ready, can_go}
 use Rattle.rules.specs.Steps.{recipes}
 use Rattle.rules.proofs.Verdicts.{and_true}
 use Rattle.state.specs.View.{task_of, entry, queue_of}
+use Rattle.state.proofs.First.{first_none, first_at}
 use Rattle.ready.specs.declared.Wait.{Wait}
 use Rattle.ready.specs.Ready.{readiness_of, idle, NotDone, Placed}
 use Rattle.ready.proofs.There.{same_go, waits_not_done}
-use Rattle.ready.proofs.Queue.{every_at, first_none, first_at}
+use Rattle.ready.proofs.Queue.{every_at}
 use Rattle.ready.proofs.first_ready.Invariants.{NoneGoes}
 use Rattle.ready.proofs.first_ready.Goals as goal
 use Rattle.ready.proofs.first_ready.Goals.{then-ne+in-Waits, then-ne+in-AtGuard, else-ne}

@@ -1,7 +1,7 @@
 use Prim.Native.Nat.{ℕ, ◌*◌}
 use mathlib.Core.Bool.{not}
 use mathlib.Core.List.{List}
-use mathlib.Core.Path.{◌≡◌, sym, ap, ◌∙◌, subst⁻¹}
+use mathlib.Core.Path.{◌≡◌, refl, sym, ap, ◌∙◌, subst⁻¹}
 use lib.IntN.{ℤ}
 use lib.ListN.{drop}
 use mir.Syntax.{w32}
@@ -15,6 +15,7 @@ use Rattle.state.specs.View.{task_of}
 use Rattle.values.specs.Operators.{option_of}
 use Rattle.values.proofs.Zero.{is-zero, not-zero}
 use Rattle.expr.specs.Spelt.{Spelt}
+use Rattle.ready.specs.Ready.{idle}
 use Rattle.ready.proofs.There.{place_of, guard-read, guard_true, guard-untrue}
 use Rattle.ready.proofs.guarded.Goals as goal
 
@@ -37,23 +38,23 @@ eval-requires c =
     (record { expr = e; rest = after (inner (drop (8 * a.t.place) a.table.bytes.now)); spelt = is; named = named })
 
 pub returns-in-Some : goal.returns-in-Some
-returns-in-Some c = λ d h.
+returns-in-Some c =
     let a = c.args in
     let g = guard-read (place_of a.table a.t.place c.requires.0) c.requires.1 in
-    let w = worth _ c.eval.ensures (search rules) (rw c.from.ensures at (c.enclosed.ensures ∙ ap inner c.from-part.ensures)) h in
-    sym (guard_true _ d.store _ (task_of a.t) _ _ g.is (ap is_true (sym w ∙ ap option_of c.in-Some.is) ∙ ap not (not-zero c.in-Some.v c.if-v-ne0.true)))
+    let w = worth _ c.eval.ensures (search rules) (rw c.from.ensures at (c.enclosed.ensures ∙ ap inner c.from-part.ensures)) refl in
+    sym (guard_true _ (idle a.s.now).store _ (task_of a.t) _ _ g.is (ap is_true (sym w ∙ ap option_of c.in-Some.is) ∙ ap not (not-zero c.in-Some.v c.if-v-ne0.true)))
 
 pub returns-in_default : goal.returns-in_default
-returns-in_default c = λ d h.
+returns-in_default c =
     let a = c.args in
     let f : SFits w32 c.in-Some.v = search rules in
     let g = guard-read (place_of a.table a.t.place c.requires.0) c.requires.1 in
-    let w = worth _ c.eval.ensures (search rules) (rw c.from.ensures at (c.enclosed.ensures ∙ ap inner c.from-part.ensures)) h in
-    sym (guard-untrue _ d.store _ (task_of a.t) _ _ g.is (ap is_true (sym w ∙ ap option_of c.in-Some.is) ∙ ap not (is-zero c.in-Some.v f c.if-v-ne0.false)))
+    let w = worth _ c.eval.ensures (search rules) (rw c.from.ensures at (c.enclosed.ensures ∙ ap inner c.from-part.ensures)) refl in
+    sym (guard-untrue _ (idle a.s.now).store _ (task_of a.t) _ _ g.is (ap is_true (sym w ∙ ap option_of c.in-Some.is) ∙ ap not (is-zero c.in-Some.v f c.if-v-ne0.false)))
 
 pub returns-in_default-2 : goal.returns-in_default-2
-returns-in_default-2 c = λ d h.
+returns-in_default-2 c =
     let a = c.args in
     let g = guard-read (place_of a.table a.t.place c.requires.0) c.requires.1 in
-    let w = worth _ c.eval.ensures (search rules) (rw c.from.ensures at (c.enclosed.ensures ∙ ap inner c.from-part.ensures)) h in
-    sym (guard-untrue _ d.store _ (task_of a.t) _ _ g.is (ap is_true (sym w ∙ ap option_of c.in_default.is)))
+    let w = worth _ c.eval.ensures (search rules) (rw c.from.ensures at (c.enclosed.ensures ∙ ap inner c.from-part.ensures)) refl in
+    sym (guard-untrue _ (idle a.s.now).store _ (task_of a.t) _ _ g.is (ap is_true (sym w ∙ ap option_of c.in_default.is)))

@@ -1,6 +1,5 @@
 use Prim.Native.Nat.{ℕ, ◌+◌, ◌*◌, ◌≤◌}
 use mathlib.Core.Bool.{true}
-use mathlib.Core.List.{List}
 use mathlib.Core.Path.{◌≡◌, sym, ap, ◌∙◌, subst⁻¹}
 use native.Mathlib.Omega.{arith}
 use borrow.Author.Rules.{rules}
@@ -20,30 +19,30 @@ use Rattle.ready.proofs.held_by.Goals.{After-from-record, Else-is}
 pub from-record-requires : goal.from-record-requires
 from-record-requires c =
     let p = place_of c.args.table c.args.t.place c.requires.0 in
-    let l = waitable_inside p (waits_there p _ _ (task_of c.args.t) c.requires.1.waits) in
+    let l = waitable_inside p (waits_there p _ _ (task_of c.args.t) c.requires.1) in
     rw c.from.ensures (omega arith)
 
 whole : (c : After-from-record) → 8 ≤ length c.from-record.result.now
 whole c =
     let p = place_of c.args.table c.args.t.place c.requires.0 in
-    let s = shape_there p (waitable_inside p (waits_there p _ _ (task_of c.args.t) c.requires.1.waits)) in
+    let s = shape_there p (waitable_inside p (waits_there p _ _ (task_of c.args.t) c.requires.1)) in
     rw (c.from-record.ensures, c.from.ensures) (omega (arith, s.whole))
 
 pub is-requires : goal.is-requires
 is-requires c = whole c
 
 pub returns-then-is : goal.returns-then-is
-returns-then-is c = λ d e h.
+returns-then-is c =
     let a = c.args in
     let p = place_of a.table a.t.place c.requires.0 in
     let first : eqb (kind_of (drop (8 * a.t.place) a.table.bytes.now)) 13 ≡ true = rw (c.from-record.ensures, c.from.ensures) at (sym c.is.ensures) ∙ c.if-is.true in
-    sym (waits-guard p d.store _ (task_of a.t) h (guard-read p (guard-is p first)))
+    sym (waits-guard p _ _ (task_of a.t) c.requires.1 (guard-read p (guard-is p first)))
 
 await_there : (c : Else-is) → AwaitThere (place_of c.args.table c.args.t.place c.requires.0)
 await_there c =
     let p = place_of c.args.table c.args.t.place c.requires.0 in
     let first = rw (c.from-record.ensures, c.from.ensures) at (sym c.is.ensures) ∙ c.if-is.false in
-    waits-await p _ _ (task_of c.args.t) c.requires.1.waits (no-guard p first)
+    waits-await p _ _ (task_of c.args.t) c.requires.1 (no-guard p first)
 
 name_is : (c : After-from-record) → get_or c.from-record.result.now 1 0 ≡ get_or c.args.table.bytes.now (8 * c.args.t.place + 1) 0
 name_is c = rw (c.from-record.ensures, c.from.ensures) (get_or-drop (8 * c.args.t.place) c.args.table.bytes.now 1 0)
@@ -56,13 +55,11 @@ variable-requires c =
     subst⁻¹ (λ (k : ℕ). k ≤ 64) (name_is (goal.at.variable-requires c).After-from-record) (await_there (goal.at.variable-requires c).Else-is).named
 
 pub returns : goal.returns
-returns c = λ d e h.
+returns c =
     let a = c.args in
     let p = place_of a.table a.t.place c.requires.0 in
-    let n = get_or a.table.bytes.now (8 * a.t.place + 1) 0 in
     ap waits_for
     (result32 c.variable.type_inv ∙ c.variable.ensures
-    ∙ ap (λ (p : ℤ). read (record { variables = a.variables.now; parameter = p }) (get_or c.from-record.result.now 1 0)) (search rules)
-    ∙ ap (λ (k : ℕ). read (record { variables = a.variables.now; parameter = a.t.parameter }) k) (name_is (goal.at.returns c).After-from-record)
-    ∙ ap (λ (v : List ℤ). read (record { variables = v; parameter = a.t.parameter }) n) (sym e))
-    ∙ sym (waits-value p d.store _ (task_of a.t) h (await_there (goal.at.returns c).Else-is))
+    ∙ ap (λ (p : ℤ). read (record { variables = a.s.now.variables; parameter = p }) (get_or c.from-record.result.now 1 0)) (search rules)
+    ∙ ap (λ (k : ℕ). read (record { variables = a.s.now.variables; parameter = a.t.parameter }) k) (name_is (goal.at.returns c).After-from-record))
+    ∙ sym (waits-value p _ _ (task_of a.t) c.requires.1 (await_there (goal.at.returns c).Else-is))

@@ -1,6 +1,6 @@
 use Prim.Native.Nat.{◌+◌, ◌*◌}
 use mathlib.Core.Bool.{false, not, true≢false}
-use mathlib.Core.Path.{◌≡◌, refl, sym, ap, ◌∙◌, subst}
+use mathlib.Core.Path.{◌≡◌, sym, ap, ◌∙◌, subst}
 use lib.IntN.{ℤ}
 use lib.ListN.{get_or}
 use borrow.Author.Rules.{rules}
@@ -70,7 +70,7 @@ returns-else-ne c =
     ]))
 
 pub returns-in-Some-Guard : goal.returns-in-Some-Guard
-returns-in-Some-Guard c = c.guarded.ensures (idle c.args.s.now) refl
+returns-in-Some-Guard c = c.guarded.ensures
 
 pub returns-in_default : goal.returns-in_default
 returns-in_default c =

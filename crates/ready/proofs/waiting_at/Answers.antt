@@ -1,4 +1,4 @@
-use mathlib.Core.Path.{◌≡◌, refl, ap, ◌∙◌, subst⁻¹}
+use mathlib.Core.Path.{◌≡◌, ap, ◌∙◌, subst⁻¹}
 use mathlib.Core.Bool.{false}
 use Prim.Native.Nat.{ℕ}
 use Rattle.rules.specs.Table.{recipe_of}
@@ -17,18 +17,14 @@ held_by-requires c =
     let r = recipe_of a.table.bytes.now in
     let e = c.task-task.ensures in (
       subst⁻¹ (Placed r) e (every_at (Placed r) (entry q) q.len c.requires.0 a.i c.requires.1),
-      record {
-        state = idle a.s.now;
-        waits = subst⁻¹ (λ (t : Task ℕ). is_ready (ready_in a.table.bytes.now (idle a.s.now) t) ≡ false) e c.requires.2;
-      },
+      subst⁻¹ (λ (t : Task ℕ). is_ready (ready_in a.table.bytes.now (idle a.s.now) t) ≡ false) e c.requires.2,
     )
 
 pub returns : goal.returns
 returns c =
     let a = c.args in
     let e = c.task-task.ensures in
-    let held = subst⁻¹ (λ (t : Task ℕ). is_ready (ready_in a.table.bytes.now (idle a.s.now) t) ≡ false) e c.requires.2 in
     record {
       task_is = e;
-      wait_is = c.held_by.ensures (idle a.s.now) refl held ∙ ap (ready_in a.table.bytes.now (idle a.s.now)) e;
+      wait_is = c.held_by.ensures ∙ ap (ready_in a.table.bytes.now (idle a.s.now)) e;
     }

@@ -1,7 +1,9 @@
 use Rattle.std.proofs.Common.{ℕ, ◌*◌, List, ◌++◌, length, drop, sym, ap, ◌∙◌}
 use mathlib.Core.Bool.{true≢false}
 use Rattle.rules.specs.Table.{recipe_of}
-use Rattle.rules.specs.Why.{halves}
+use Rattle.rules.specs.Why.{halves, unexplained}
+use Rattle.table.specs.declared.refusal.Refusal.{Refusal}
+use Rattle.table.specs.Refusals.{rule_number}
 use Rattle.state.specs.View.{view}
 use Rattle.why.specs.Follow.{chain_in}
 use Rattle.why.proofs.Stuck.{following, followed}
@@ -14,7 +16,8 @@ returns-then-chain-ne66 c =
     let r = recipe_of c.args.table.bytes.now in
     let s = view c.args.s in
     let l = c.args.chain.now in
-    c.unexplained.ensures l
+    c.into.ensures l
+    ∙ ap (λ (f : Refusal). unexplained (rule_number f.rule) f.place l) c.at.ensures
     ∙ (elim c.then-chain-ne66.branch [
       | then-chain-ne66-via-then-chain-ne66 w ↦ wrong_length r s l w.if-chain-ne66.true
       | then-chain-ne66-via-else-chain-ne66+then-not-is_stuck w ↦ not_stuck r s l c.requires w.if-chain-ne66.false (λ z. true≢false (sym (w.is_stuck.ensures.1 z) ∙ w.if-not-is_stuck.true))

@@ -1,11 +1,10 @@
-use Rattle.std.proofs.Common.{ℕ, List, ◌≡◌, sym, ap, ap₂, ◌∙◌, arith}
+use Rattle.std.proofs.Common.{ℕ, List, ◌≡◌, sym, ap₂, ◌∙◌, arith}
 use Rattle.rules.specs.Table.{fine, ◌else◌, check, recipe_of}
 use Rattle.rules.specs.Places.{is_place}
 use Rattle.rules.specs.State.{State, check_block}
 use Rattle.rules.specs.Run.{opens}
 use Rattle.rules.specs.Answers.{Accepted}
 use Rattle.rules.specs.Why.{why_with}
-use Rattle.rules.proofs.Fit.{Fit}
 use Rattle.rules.proofs.Blocks.{fit_read}
 use Rattle.rules.proofs.Verdicts.{else_fine}
 use Rattle.runner.proofs.Calling.{head_fits_lem}

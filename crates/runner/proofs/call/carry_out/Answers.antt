@@ -1,6 +1,7 @@
-use mathlib.Core.Path.{◌≡◌, ap, ◌∙◌}
+use Prim.Native.Nat.{ℕ}
+use mathlib.Core.Path.{◌≡◌, ap₂, ◌∙◌}
+use mathlib.Core.List.{List}
 use native.Mathlib.Omega.{arith}
-use lib.ListN.{length}
 use borrow.Author.Rules.{rules}
 use Rattle.rules.specs.Table.{recipe_of}
 use Rattle.rules.specs.Places.{is_place}
@@ -10,7 +11,6 @@ use Rattle.rules.specs.Steps.{recipes}
 use Rattle.rules.specs.Run.{place_of, room_of, outcome}
 use Rattle.rules.proofs.Blocks.{fit_read}
 use Rattle.state.specs.View.{view}
-use Rattle.links.proofs.Leading.{links_set}
 use Rattle.count.specs.Along.{ending_of}
 use Rattle.runner.proofs.Calling.{head_fits_lem, records_fit, answers, place-named, no_place}
 use Rattle.runner.proofs.call.carry_out.Goals as goal
@@ -22,13 +22,7 @@ read-requires c = head_fits_lem (is_place (recipe_of c.args.table.bytes.now)) c.
 pub drive-ran-requires : goal.drive-ran-requires
 drive-ran-requires c =
     let a = c.args in
-    let t = a.table.bytes.now in
-    let next : length c.none-links.result.next ≡ 4096 = search rules in
-    let starts : length c.none-links.result.starts ≡ 256 = search rules in
-    record {
-      linked = links_set t a.table.in_bytes a.table.fine c.none-links.result c.set.new.self next starts c.set.ensures.next_after c.set.ensures.starts_after;
-      fits = rw c.read.ensures (fit_read (recipe_of t) a.state.now (λ i. search rules) c.requires);
-    }
+    rw (c.link.ensures, c.read.ensures) (fit_read (recipe_of a.table.bytes.now) a.state.now (λ i. search rules) c.requires)
 
 pub write-requires : goal.write-requires
 write-requires c = (head_fits_lem (is_place (recipe_of c.args.table.bytes.now)) c.args.state.now c.requires).0
@@ -39,7 +33,6 @@ overflow_cast-result c = let f = records_fit c.drive-ran.ensures in omega arith
 pub returns : goal.returns
 returns c =
     let a = c.args in
-    let r = recipe_of a.table.bytes.now in
     let ran = c.drive-ran.result in
     let place : c.match-ran.place ≡ place_of (ending_of ran.stop) (view ran.state) =
     elim c.match-ran.branch [
@@ -48,4 +41,4 @@ returns c =
       | in_default-2 w ↦ w.place-is ∙ no_place ran.stop ran.state (λ t e h. w.in_default.not-NoValue-0 e)
     ] in
     answers c.drive-ran.ensures _ _ _ c.from.ensures place c.write.ensures
-    ∙ ap (λ (s : R.State). outcome r (run (recipes r) a.budget (room_of a.log.now) s) a.log.now) c.read.ensures
+    ∙ ap₂ (λ (t : List ℕ) (s : R.State). outcome (recipe_of t) (run (recipes (recipe_of t)) a.budget (room_of a.log.now) s) a.log.now) c.link.ensures c.read.ensures

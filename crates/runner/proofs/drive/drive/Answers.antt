@@ -12,10 +12,10 @@ use Rattle.runner.proofs.drive.drive.Goals as goal
 use Rattle.runner.proofs.drive.drive.Goals.{then-w-ne0, else-w-ne0}
 
 pub loop-s-init : goal.loop-s-init
-loop-s-init c = driven_start _ c.requires
+loop-s-init c = driven_start c.requires
 
 pub proceed-p-requires : goal.proceed-p-requires
-proceed-p-requires c = to_proceed c.loop-s.invariant c.requires.linked c.in-Some.is
+proceed-p-requires c = to_proceed c.loop-s.invariant c.in-Some.is
 
 pub returns-in-Err : goal.returns-in-Err
 returns-in-Err c =
@@ -27,7 +27,7 @@ loop-s-preserved-in-Ok-Spawns c =
     let x = came c.loop-s.invariant c.in-Some.task c.proceed-p.result c.proceed-p.new.variables c.proceed-p.new.log c.in-Some.is c.proceed-p.ensures.left in
     let is : c.proceed-p.result.left ≡ Ok (Spawns c.in-Ok-Spawns.field-0-0 c.in-Ok-Spawns.start c.in-Ok-Spawns.v c.in-Ok-Spawns.field-0-3) = search rules in
     let fits : to_z w32 (of_z w32 c.in-Ok-Spawns.v) ≡ c.in-Ok-Spawns.v = search rules in
-    came_on x is (rw fits at c.spawn-s.ensures)
+    came_on x is (rw fits at c.spawn.ensures)
 
 pub loop-s-preserved-in-Ok-Ends : goal.loop-s-preserved-in-Ok-Ends
 loop-s-preserved-in-Ok-Ends c =
@@ -41,7 +41,7 @@ loop-s-preserved-in-Ok c =
     let so = rw c.in-Ok.is at c.proceed-p.ensures.leaves_so in
     let spawns : (n p : ℕ) (z : ℤ) (k : ℕ) → ¬ (c.in-Ok.field-0 ≡ Spawns n p z k) = λ n p z k. search rules in
     let ends : ¬ (c.in-Ok.field-0 ≡ Ends) = search rules in
-    came_on x c.in-Ok.is (c.put_back-s.ensures ∙ puts_back_else c.in-Ok.field-0 _ so.0 spawns ends)
+    came_on x c.in-Ok.is (c.put_back.ensures ∙ puts_back_else c.in-Ok.field-0 _ so.0 spawns ends)
 
 pub loop-s-smaller-in-Ok-Spawns : goal.loop-s-smaller-in-Ok-Spawns
 loop-s-smaller-in-Ok-Spawns c =
@@ -80,8 +80,8 @@ returns-in-Some-stop c =
     let x = tried c.loop-s.invariant c.try_all-w.result c.try_all-w.new.log off c.try_all-w.ensures.tries in
     rw c.stopped-in-Some-stop.ensures (record { ended = tried-ends t x c.in-Some-stop.is })
 
-pub onward-task-requires-clause-placed : goal.onward-task-requires-clause-placed
-onward-task-requires-clause-placed c =
+pub onward-task-requires : goal.onward-task-requires
+onward-task-requires c =
     let s = c.loop-s.s in
     let off = c.in_default.is in
     let n = c.try_all-w.result.turns in

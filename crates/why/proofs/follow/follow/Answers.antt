@@ -1,15 +1,14 @@
-use Rattle.std.proofs.Common.{ℕ, suc, ◌+◌, ◌-◌, ◌≤◌, ◌<◌, ◌≡◌, Bool, true, false, List, [], ◌∷◌, ◌++◌, length, Result, Ok, Err, refl, sym, ap, ap₂, ◌∙◌, subst, arith, length-append}
-use Rattle.std.proofs.Math.Option.{Option, some}
+use Rattle.std.proofs.Common.{ℕ, suc, ◌+◌, ◌-◌, ◌<◌, ◌≡◌, Bool, true, false, List, [], ◌∷◌, ◌++◌, length, Result, Ok, refl, sym, ap, ap₂, ◌∙◌, subst, arith, length-append}
+use Rattle.std.proofs.Math.Option.{some}
 use Rattle.std.specs.List.{list_any}
 use Rattle.std.specs.Prelude.{nat_eq}
 use Rattle.arrayvec.specs.ArrayVec.{ArrayVec}
 use Rattle.rules.specs.Recipe.{Recipe}
 use Rattle.rules.specs.Table.{recipe_of}
-use Rattle.rules.specs.State as R
 use Rattle.rules.specs.State.{Task}
 use Rattle.rules.specs.Scheduler.{Readiness, is_ready, can_go}
 use Rattle.rules.specs.Steps.{recipes}
-use Rattle.rules.specs.Why.{Chain, chain, among, follow}
+use Rattle.rules.specs.Why.{chain, among, follow}
 use Rattle.state.specs.declared.State.{State}
 use Rattle.state.specs.View.{entry, queue_of}
 use Rattle.ready.specs.declared.Queued.{Queued}
