@@ -11,10 +11,11 @@ ghost use Rattle.rules.specs.State as R;
 ghost use Rattle.rules.specs.Scheduler.{is_live, is_ready, can_go};
 ghost use Rattle.rules.specs.Steps.{is_done, recipes, go_to, past_at};
 ghost use Rattle.state.specs.View.{task_of, entry, queue_of};
+ghost use Rattle.links.specs.Linked.{Leads};
 ghost use Rattle.ready.specs.Ready.{readiness_of, idle, ready_in, first_in, natural, Describes, NotDone, Placed, Waiting};
 
 use expr::{Env, eval};
-use links::LinkedTable;
+use links::Links;
 use state::{State, Task};
 use table::check::Accepted;
 use table::record::{Kind, enclosed, from, is, kind_at};
@@ -144,14 +145,15 @@ pub fn first_ready(table: Accepted, s: &State) -> Option<usize>
     None
 }
 
-// The place of a task that becomes active: past its await or its guard, if it stood at one.
-pub fn past(linked: LinkedTable, place: u16) -> u16
-    requires { is_place (recipe_of linked.table.bytes.now) place ≡ true }
-    ensures { (t : R.Task ℕ) → t.place ≡ place → past_at (at (recipe_of linked.entry.table.bytes.now) place) t ≡ go_to t result }
+// The place of a task that becomes active: past its await or its guard, if it stood at one. (kept: the table and the links apart. Of the links it asks less than
+// `LinkedTable` says.)
+pub fn past(table: Accepted, links: &Links, place: u16) -> u16
+    requires { (is_place (recipe_of table.bytes.now) place ≡ true) × Leads (recipe_of table.bytes.now) links.now.next }
+    ensures { (t : R.Task ℕ) → t.place ≡ place → past_at (at (recipe_of table.entry.bytes.now) place) t ≡ go_to t result }
 {
     let i = usize::from(place);
-    match kind_at(linked.table.bytes, 8 * i) {
-        Some(Kind::Await | Kind::Guard) => linked.links.next[i],
+    match kind_at(table.bytes, 8 * i) {
+        Some(Kind::Await | Kind::Guard) => links.next[i],
         _ => place,
     }
 }

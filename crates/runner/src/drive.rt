@@ -39,7 +39,7 @@ fn onward(linked: LinkedTable, s: &State) -> Task
     ensures moved { task_of result ≡ go_to (entry s.now.queue 0) result.place }
 {
     let task = s.queue.task(0);
-    task.at(past(linked, task.place))
+    task.at(past(linked.table, linked.links, task.place))
 }
 
 // The state gives way to what a method makes of it. In a function as small as this the compiler copies the queue twice, in the loop below three times.

@@ -12,25 +12,25 @@ use Rattle.ready.proofs.There.{may_wait, neither, place_of, waitable_there, wait
 use Rattle.ready.proofs.past.Goals as goal
 use Rattle.ready.proofs.past.Goals.{In-Some-Await}
 
-may_wait_here : (c : In-Some-Await) → may_wait (kind_there c.args.linked.table.bytes.now (8 * c.args.place)) ≡ true
+may_wait_here : (c : In-Some-Await) → may_wait (kind_there c.args.table.bytes.now (8 * c.args.place)) ≡ true
 may_wait_here c =
     let k : (c.kind_at.result ≡ Some Await) ⊎ (c.kind_at.result ≡ Some Guard) = search rules in
     ap may_wait (rw c.from-i.ensures at (sym c.kind_at.ensures)) ∙ ⊎_elim (ap may_wait) (ap may_wait) k
 
-pub bounds-linked-i : goal.bounds-linked-i
-bounds-linked-i c =
-    let p = place_of c.args.linked.table c.args.place c.requires in
-    rw c.from-i.ensures (few-there p (waitable_inside p (may_wait_here (goal.at.bounds-linked-i c).In-Some-Await)))
+pub bounds-links-i : goal.bounds-links-i
+bounds-links-i c =
+    let p = place_of c.args.table c.args.place c.requires.0 in
+    rw c.from-i.ensures (few-there p (waitable_inside p (may_wait_here (goal.at.bounds-links-i c).In-Some-Await)))
 
 pub returns-in-Some-Await : goal.returns-in-Some-Await
 returns-in-Some-Await c =
-    let p = place_of c.args.linked.table c.args.place c.requires in
+    let p = place_of c.args.table c.args.place c.requires.0 in
     let h = waitable_there p (may_wait_here (goal.at.returns-in-Some-Await c).In-Some-Await) in
-    λ t e. h.goes_past t ∙ ap (go_to t) (sym (c.args.linked.linked.next_is c.args.place h.a-statement) ∙ ap (λ (k : ℕ). get_or c.args.linked.links.now.next k 0) (sym c.from-i.ensures))
+    λ t e. h.goes_past t ∙ ap (go_to t) (sym (c.requires.1 c.args.place h.a-statement) ∙ ap (λ (k : ℕ). get_or c.args.links.now.next k 0) (sym c.from-i.ensures))
 
 pub returns-in_default : goal.returns-in_default
 returns-in_default c =
-    let p = place_of c.args.linked.table c.args.place c.requires in
+    let p = place_of c.args.table c.args.place c.requires.0 in
     let k = c.in_default.field-0 in
     let no_await : ¬ (k ≡ Await) = search rules in
     let no_guard : ¬ (k ≡ Guard) = search rules in
@@ -40,6 +40,6 @@ returns-in_default c =
 
 pub returns-in_default-2 : goal.returns-in_default-2
 returns-in_default-2 c =
-    let p = place_of c.args.linked.table c.args.place c.requires in
+    let p = place_of c.args.table c.args.place c.requires.0 in
     let f = free-there p (ap may_wait (rw c.from-i.ensures at (sym c.kind_at.ensures) ∙ c.in_default.is)) in
     λ t e. f.stays t ∙ ap (go_to t) e
