@@ -47,7 +47,8 @@ fn place_after(part: &[u8], at: usize, follow: u16) -> u16
     behind
 }
 
-// (kept: a part with its index, as in the check.) Links the first statement of a row and all that it encloses; `then` is the place after it. `left` bounds how deep the calls go.
+// Links the first statement of a row and all that it encloses; `then` is the place after it. `left` bounds how deep the calls go. (kept: a part
+// with its index, as in the check.)
 #[cycle(link_body_link_statement)]
 fn link_statement(part: &[u8], at: usize, then: u16, left: usize, next: &mut [u16; 4096])
     requires { BodySpelt at left part.now × (0 < length part.now) }

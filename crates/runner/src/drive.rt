@@ -57,8 +57,9 @@ fn spawn(s: &mut State, place: u16, argument: i32)
     *s = s.spawn(place, argument);
 }
 
-// All steps of a call. (kept: that the state fits the table is a clause, as in `why`; the check of a block says it, and then each step.) Where no task is stored in the queue, an arm assigns the new state to the variable that held the old one; joined in one function,
-// the arms would copy all of it.
+// All steps of a call. (kept: that the state fits the table is a clause, as in `why`. The check of a block says it, and then each step.) Where no
+// task is stored in the queue, an arm assigns the new state to the variable that held the old one: joined in one function, the arms would copy
+// all of it.
 pub fn drive(linked: LinkedTable, first: State, budget: u32, log: &mut [u8]) -> Ran
     requires { Fit (recipe_of linked.table.bytes.now) (view first) }
     ensures { Drives linked.entry.table.bytes.now first budget log.old log.new result }

@@ -25,7 +25,7 @@ loop-record-init c =
     }
 
 pub put_record-at-requires-clause-whole : goal.put_record-at-requires-clause-whole
-put_record-at-requires-clause-whole c = c.in-Some.ensures.steps.0.1.1 ∙ c.loop-record.invariant.left.eights
+put_record-at-requires-clause-whole c = c.in-Some.ensures.steps.0.1.1 ∙ c.loop-record.invariant.left.chunks.sized
 
 pub put_record-at-requires-clause-at_in_bounds : goal.put_record-at-requires-clause-at_in_bounds
 put_record-at-requires-clause-at_in_bounds c = omega (arith, buffers.same_length c.loop-record.invariant.written, c.in-Some.ensures.steps.1)
