@@ -27,8 +27,8 @@
  *
  * Stack
  *   Have 16,384 bytes of stack free for each call, whatever the table
- *   holds. Measured on x86-64: at most 14,215 bytes in recipe_run, 4,199 in
- *   recipe_start, 14,343 in recipe_why_stuck and 3,367 in recipe_check_all,
+ *   holds. Measured on x86-64: at most 15,335 bytes in recipe_run, 4,503 in
+ *   recipe_start, 15,511 in recipe_why_stuck and 3,367 in recipe_check_all,
  *   rounded up here to the next 4 KiB.
  */
 #ifndef RECIPE_RUNNER_H
@@ -45,7 +45,27 @@ extern "C" {
 #define RECIPE_RECORD_BYTES 8
 
 /* Size of a state: always exactly this. */
-#define RECIPE_STATE_BYTES 520
+#define RECIPE_STATE_BYTES 776
+
+/* Where a state has what, in bytes from its first on, for hosts that read it or
+   write a variable. See "A state" below. */
+#define RECIPE_STATE_ISSUED_AT 0 /* 2 bytes: the highest task number issued */
+#define RECIPE_STATE_LIVE_AT 2   /* 1 byte: how many tasks are live, 0 to 32 */
+#define RECIPE_STATE_ACTIVE_AT 3 /* 1 byte: 1 if the first task is active */
+#define RECIPE_STATE_TASKS_AT 8  /* 32 times RECIPE_TASK_BYTES */
+#define RECIPE_STATE_VARIABLES_AT 520 /* 64 times RECIPE_VARIABLE_BYTES */
+
+/* Size of a task and of a variable in a state. */
+#define RECIPE_TASK_BYTES 16
+#define RECIPE_VARIABLE_BYTES 4
+
+/* Where a task has what, in bytes from its first on. */
+#define RECIPE_TASK_NUMBER_AT 0    /* 2 bytes */
+#define RECIPE_TASK_PLACE_AT 2     /* 2 bytes: its next statement's index */
+#define RECIPE_TASK_PARAMETER_AT 4 /* 4 bytes, signed */
+#define RECIPE_TASK_SPAWNER_AT 8   /* 2 bytes: who started it, a task's number,
+                                      0 for task 1 */
+#define RECIPE_TASK_TAKEN_AT 12    /* 4 bytes, unsigned: the times taken up */
 
 /* The longest table: 4,096 records. The shortest has one. */
 #define RECIPE_TABLE_MOST_BYTES 32768
@@ -158,6 +178,30 @@ struct recipe_explained {
 };
 
 /*
+ * A state: 97 records of RECIPE_RECORD_BYTES.
+ *
+ * Record 0       bytes 0-1 the highest task number issued, 1 to 65,535; byte 2
+ *                the live tasks; byte 3 is 1 if one is active, else 0; bytes
+ *                4-7 zero.
+ * Records 1-64   two for each live task, the active one first if any, then the
+ *                ready queue from its front. A task's first record: bytes 0-1
+ *                its number, 2-3 the index of its next statement, or of the
+ *                record after its procedure's last, 4-7 its parameter. Its
+ *                second, directly behind: bytes 0-1 the spawner's number, 0 for
+ *                task 1 and from 1 to one below its own for others, 2-3 zero,
+ *                4-7 the times taken up. Unused ones are all zero.
+ * Records 65-96  variables 0 to 63, 4 bytes each, of any content.
+ *
+ * The spawner is the task whose spawn started the task; it may have ended. The
+ * times taken up are how often the task became active from the ready queue's
+ * front (RECIPE_LOG_TAKEN); being turned does not count, nor does the start of
+ * task 1. They stay at 4,294,967,295 once they are there.
+ *
+ * Reading a state is safe at any time between calls. Of it a host writes only
+ * variables.
+ */
+
+/*
  * Check a table and write a fresh state: the main task, active at its first
  * statement, every variable 0.
  *
@@ -200,9 +244,10 @@ struct recipe_started recipe_start(const uint8_t *table, size_t table_len,
  * further call with the same state takes no step.
  *
  * A host brings a sensor's reading in by writing its variable between calls:
- * variable n, 0 to 63, is the 4 bytes of the state from 264 + 4 * n on, of any
- * content. A guard is tested anew at each try: a task at one goes on when it is
- * tried with the reading that it waits for, after RECIPE_STUCK too.
+ * variable n, 0 to 63, is the RECIPE_VARIABLE_BYTES of the state from
+ * RECIPE_STATE_VARIABLES_AT + RECIPE_VARIABLE_BYTES * n on, of any content. A
+ * guard is tested anew at each try: a task at one goes on when it is tried with
+ * the reading that it waits for, after RECIPE_STUCK too.
  *
  * A quotient by 0 has no value, nor has an expression with an operand that has
  * none. A set, an if, a while or a spawn that needs it is not done: no variable

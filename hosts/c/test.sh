@@ -9,6 +9,26 @@ mkdir "$work" || exit 2
 trap 'rm -rf "$work"' EXIT
 trap 'exit 2' HUP INT TERM
 
+# named NAME: the number that the header has under a name.
+named() {
+    awk -v name="$1" '$1 == "#define" && $2 == name { print $3 }' \
+        ../../include/recipe_runner.h
+}
+
+# field_at FIELD TASK: where a state has a field of a task, by the task's index.
+field_at() {
+    echo $(($(named RECIPE_STATE_TASKS_AT) + $2 * $(named RECIPE_TASK_BYTES) + \
+        $(named "RECIPE_TASK_$1_AT")))
+}
+
+# variable_at NUMBER
+variable_at() {
+    echo $(($(named RECIPE_STATE_VARIABLES_AT) + \
+        $1 * $(named RECIPE_VARIABLE_BYTES)))
+}
+
+state_bytes=$(named RECIPE_STATE_BYTES)
+
 # byte NUMBER: one byte.
 byte() {
     printf '%b' "\\0$(printf '%03o' "$(($1 & 255))")"
@@ -28,6 +48,21 @@ table() {
     printf '%s\n' "$@" | while IFS=, read -r kind name span value; do
         record "$kind" "$name" "$span" "$value"
     done >"$file"
+}
+
+# put FILE AT NUMBER...: bytes of a file from an index on, in place of others.
+put() {
+    file=$1
+    at=$2
+    shift 2
+    for number in "$@"; do
+        byte "$number"
+    done | dd of="$file" bs=1 seek="$at" conv=notrunc 2>/dev/null
+}
+
+# bytes FILE AT COUNT: so many bytes of a file from an index on, as numbers.
+bytes() {
+    echo $(od -A n -t u1 -v -j "$2" -N "$3" "$1")
 }
 
 # check WHAT EXPECTED FOUND
@@ -126,17 +161,85 @@ test_refused_state() {
     check "a state too short" "refused 21 0
 exit 1" "$(said -s "$work/short" "$work/a")"
 
-    dd if=/dev/zero of="$work/zeros" bs=520 count=1 2>/dev/null
+    dd if=/dev/zero of="$work/zeros" bs=$state_bytes count=1 2>/dev/null
     cp "$work/zeros" "$work/zeros.was"
     check "a state against the rules" "refused 22 0
 exit 1" "$(said -s "$work/zeros" "$work/a")"
 
-    dd if=/dev/zero of="$work/more" bs=521 count=1 2>/dev/null
-    check "a state too long" "refused 21 0
-exit 1" "$(said -s "$work/more" "$work/a")"
+    for length in $((state_bytes - 1)) $((state_bytes + 1)) 520; do
+        dd if=/dev/zero of="$work/other" bs=$length count=1 2>/dev/null
+        check "a state of $length bytes" "refused 21 0
+exit 1" "$(said -s "$work/other" "$work/a")"
+    done
 
     cmp "$work/short" "$work/short.was" && cmp "$work/zeros" "$work/zeros.was"
     check "refused states are kept" 0 $?
+}
+
+# task_of FILE TASK: number, place, parameter, spawner and times taken up.
+task_of() {
+    echo "$(bytes "$1" "$(field_at NUMBER "$2")" 2)," \
+        "$(bytes "$1" "$(field_at PLACE "$2")" 2)," \
+        "$(bytes "$1" "$(field_at PARAMETER "$2")" 4)," \
+        "$(bytes "$1" "$(field_at SPAWNER "$2")" 2)," \
+        "$(bytes "$1" "$(field_at TAKEN "$2")" 4)"
+}
+
+# Row A after its first slice: task 2 is active, and main waits for it.
+test_starters() {
+    said -s "$work/live" -n 1 "$work/a" >/dev/null
+    check "a saved state's size" 776 "$(($(wc -c <"$work/live")))"
+    check "two numbers are issued" "2 0" \
+        "$(bytes "$work/live" "$(named RECIPE_STATE_ISSUED_AT)" 2)"
+    check "two tasks are live" 2 \
+        "$(bytes "$work/live" "$(named RECIPE_STATE_LIVE_AT)" 1)"
+    check "one of them is active" 1 \
+        "$(bytes "$work/live" "$(named RECIPE_STATE_ACTIVE_AT)" 1)"
+    check "task 2 at its end, spawned by 1, taken up once" \
+        "2 0, 9 0, 5 0 0 0, 1 0, 1 0 0 0" "$(task_of "$work/live" 0)"
+    check "task 1 at its await, spawned by none, never taken up" \
+        "1 0, 3 0, 0 0 0 0, 0 0, 0 0 0 0" "$(task_of "$work/live" 1)"
+
+    # Taken up twice a slice, for ever.
+    table "$work/again" 1,0,3,0 5,0,2,0 9,0,0,1 7,0,0,0
+    said -s "$work/again.state" -n 1 "$work/again" >/dev/null
+    check "task 1: taken up twice" "2 0 0 0" \
+        "$(bytes "$work/again.state" "$(field_at TAKEN 0)" 4)"
+    put "$work/again.state" "$(field_at TAKEN 0)" 254 255 255 255
+    said -s "$work/again.state" -n 1 "$work/again" >/dev/null
+    check "the times taken up stay at the largest value" "255 255 255 255" \
+        "$(bytes "$work/again.state" "$(field_at TAKEN 0)" 4)"
+}
+
+# damaged WHAT PLACE AT NUMBER...: a state that differs in these bytes is
+# refused at the state record.
+damaged() {
+    what=$1
+    place=$2
+    shift 2
+    cp "$work/live" "$work/damaged"
+    put "$work/damaged" "$@"
+    cp "$work/damaged" "$work/damaged.was"
+    check "$what" "refused 22 $place
+exit 1" "$(said -s "$work/damaged" "$work/a")"
+    cmp "$work/damaged" "$work/damaged.was"
+    check "$what: kept" 0 $?
+}
+
+test_damaged_starters() {
+    second=$(field_at SPAWNER 0)
+    damaged "task 2 with no spawner" 2 "$second" 0 0
+    damaged "task 2 with itself as its spawner" 2 "$second" 2 0
+    damaged "task 2 with a later spawner" 2 "$second" 1 1
+    damaged "task 2 with byte 2 not zero" 2 $((second + 2)) 1
+    damaged "task 2 with byte 3 not zero" 2 $((second + 3)) 128
+    second=$(field_at SPAWNER 1)
+    damaged "task 1 with a spawner" 4 "$second" 1 0
+    damaged "task 1 with byte 3 not zero" 4 $((second + 3)) 1
+    damaged "an unused second record with a spawner" 6 "$(field_at SPAWNER 2)" 1
+    damaged "an unused second record with a count" 6 \
+        "$(field_at TAKEN 2)" 0 0 0 1
+    damaged "the last unused second record" 64 $(($(variable_at 0) - 1)) 1
 }
 
 # Two tasks set valve 1 and yield; main counts to 150 without a record, which
@@ -184,13 +287,13 @@ paused" "$(words "$work/parts")"
 exit 0" "$(said -s "$work/parts.state" "$work/long_run")"
 }
 
-# A guard over variable 8, which is at byte 264 + 4 * 8 of the state.
+# A guard over variable 8.
 test_sensor() {
     table "$work/sensor" 1,0,4,0 13,0,1,0 10,8,0,0 3,0,1,0 10,8,0,0
     check "an untrue guard is stuck" "waits 1 0 0
 stuck 1
 exit 3" "$(said -s "$work/sensor.state" "$work/sensor")"
-    byte 7 | dd of="$work/sensor.state" bs=1 seek=296 conv=notrunc 2>/dev/null
+    put "$work/sensor.state" "$(variable_at 8)" 7
     check "a reading written between calls" "taken 1 0 0
 valve 1 0 7
 ended 1 0 0
@@ -212,7 +315,7 @@ exit 3" "$(said -s "$work/share.state" "$work/share")"
 exit 3" "$(said -s "$work/share.state" "$work/share")"
     cmp "$work/share.state" "$work/share.was"
     check "its state is kept" 0 $?
-    byte 2 | dd of="$work/share.state" bs=1 seek=296 conv=notrunc 2>/dev/null
+    put "$work/share.state" "$(variable_at 8)" 2
     check "another divisor written between calls" "valve 1 0 3
 ended 1 0 0
 finished 2
@@ -365,6 +468,8 @@ test_trouble() {
 test_rows
 test_refused_table
 test_refused_state
+test_starters
+test_damaged_starters
 test_resume
 test_sensor
 test_divisor

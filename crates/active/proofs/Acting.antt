@@ -13,7 +13,7 @@ use Rattle.rules.specs.Recipe.{Recipe, Env, write}
 use Rattle.rules.specs.State.{Task, State}
 use Rattle.rules.specs.Log.{Event}
 use Rattle.rules.specs.Scheduler.{Halt, goes, next_act}
-use Rattle.rules.specs.Steps.{limits, spawn_at, recipes}
+use Rattle.rules.specs.Steps.{limits, counting, spawn_at, recipes}
 use Rattle.rules.proofs.Steps.{room}
 use Rattle.moves.specs.declared.Move.{Move}
 use Rattle.moves.specs.declared.Move.TheVariants.{Goes, Sets, Spawns, Gives, Waits, Ends}
@@ -43,7 +43,7 @@ module _ (r : Recipe) (q : List (Task ℕ)) (x : Option Event) (c : State) (issu
   free : (n p k : ℕ) (z : ℤ) → next_act (recipes r) q (act_of (Spawns n p z k) (store_with issued v) q t) ≡ goes x c → limits (length q) issued ≡ none
   free n p k z h = go (limits (length q) issued) h
     where
-      go : (o : Option Halt) → next_act (recipes r) q (spawn_at o (store_with issued v) t n p z k) ≡ goes x c → o ≡ none
+      go : (o : Option Halt) → next_act (recipes r) q (spawn_at counting o (store_with issued v) t n p z k) ≡ goes x c → o ≡ none
       go none h = refl
       go (some l) h = absurd (let z : ◌≡◌ {A = ℕ} 0 1 = cc in omega arith)
 

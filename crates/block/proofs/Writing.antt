@@ -1,12 +1,12 @@
 -- The block that the parts of a state are written to.
 -- Assumes nothing.
-use Prim.Native.Nat.{ℕ, ◌+◌, ◌≤◌, ◌<◌}
+use Prim.Native.Nat.{ℕ, zero, suc, ◌+◌, ◌*◌, ◌≤◌, ◌<◌}
 use mathlib.Core.Path.{◌≡◌, refl, sym, ap, ◌∙◌}
 use mathlib.Core.List.{List, [], ◌++◌, append_assoc, append-nil}
 use native.Mathlib.Omega.{arith}
 use native.Mathlib.Numerals.{one-add}
 use native.Mathlib.Nat.{zero-add}
-use lib.ListN.{length, get_or, take, get_or-eq_default}
+use lib.ListN.{length, get_or, take, get_or-eq_default, replicate-append-replicate}
 use lib.Seq.{sets}
 use mir.Val.{bool_byte}
 use Rattle.std.specs.Prelude.{Option, None, Some, IsSome}
@@ -78,13 +78,21 @@ module _ (issued n live taken next : ℕ) (h l : List ℕ) (a : Option Task) (al
       let rows : active_rows a ≡ [] = ap active_rows e in
       rw (m, q, rows, append-nil) head-is
 
-  pub with_active : (t : Task) → a ≡ Some t → length h ≡ 520 → next ≡ 16 → l ≡ sets h 8 (task_row (task_of t)) → Fronted issued n a next l
+  pub with_active : (t : Task) → a ≡ Some t → length h ≡ 776 → next ≡ 24 → l ≡ sets h 8 (task_row (task_of t)) → Fronted issued n a next l
   unfolding task_row
   with_active t e sized m q =
       let rows : active_rows a ≡ task_row (task_of t) = ap active_rows e in
       rw (m, q, rows)
       (take_sets (task_row (task_of t)) h 8 (omega arith)
       ∙ ap (λ (b : List ℕ). b ++ task_row (task_of t)) head-is)
+
+-- records that no task has
+zero_rows : (m : ℕ) (f : ℕ → List ℕ) → ((i : ℕ) → i < m → f i ≡ task_row no_task) → joined m f ≡ unused_rows m
+unfolding joined task_row
+zero_rows zero f h = refl
+zero_rows (suc m) f h =
+    let e : 16 * suc m ≡ 16 * m + 16 = omega arith in
+    rw (zero_rows m f (λ i l. h i (omega arith)), h m (omega arith), e) (replicate-append-replicate (16 * m) 16 0)
 
 module _ (s : State) where
   abbrev k : ℕ
@@ -106,7 +114,9 @@ module _ (s : State) where
       (λ i h. ap task_row (live-queued s.active _ i ∙ get_or-tab (entry s.queue) n i no_task h))
 
   rest-rows : (m : ℕ) → joined m (λ i. task_row (get_or tasks (k + n + i) no_task)) ≡ unused_rows m
-  rest-rows m = joined_same _ _ m (λ i h. ap task_row (get_or-eq_default tasks no_task {n = k + n + i} (omega (arith, tasks-length))))
+  rest-rows m =
+      zero_rows m (λ i. task_row (get_or tasks (k + n + i) no_task))
+      (λ i h. ap task_row (get_or-eq_default tasks no_task {n = k + n + i} (omega (arith, tasks-length))))
 
   task-rows : (m : ℕ) → k + n + m ≡ 32
       → joined 32 (λ i. task_row (get_or tasks i no_task)) ≡ active_rows s.active ++ (ring_rows s.queue n ++ unused_rows m)
@@ -124,8 +134,8 @@ module _ (s : State) where
   pub written : (next end : ℕ) (l r p b : List ℕ) (m : ℕ) → k + n + m ≡ 32
       → Fronted s.issued n s.active next l
       → take end r ≡ take next l ++ ring_rows s.queue n
-      → take 264 p ≡ take end r ++ unused_rows m
-      → b ≡ take 264 p ++ value_rows s.variables
+      → take 520 p ≡ take end r ++ unused_rows m
+      → b ≡ take 520 p ++ value_rows s.variables
       → b ≡ write_block (view s)
   unfolding write_block
   written next end l r p b m e el er ep eb =

@@ -1,8 +1,8 @@
 -- The parts of a state block: the offsets of its records, its tasks, and their bytes.
 -- Assumes nothing.
-use Rattle.std.specs.Prelude.{ℕ, ◌+◌, ◌*◌, ◌≡◌, List, [], ◌∷◌, ◌++◌, ℤ, pos, get_or}
+use Rattle.std.specs.Prelude.{ℕ, ◌+◌, ◌*◌, ◌≡◌, List, [], ◌∷◌, ◌++◌, ℤ, pos, get_or, replicate}
 use Rattle.rules.specs.Fields.{half, word, signed, bits, bytes2, bytes4}
-use Rattle.rules.specs.State.{Task, joined, task_row, no_task}
+use Rattle.rules.specs.State.{Task, joined, task_row}
 use Rattle.state.specs.declared.Queue.{Queue}
 use Rattle.state.specs.View.{entry}
 
@@ -11,16 +11,21 @@ use Rattle.state.specs.View.{entry}
 abbrev pub OffsetOf : (i at : ℕ) → Type 0
 OffsetOf i at = at ≡ 8 * i
 
--- the task in the 8 bytes from index a
+-- the task in the 16 bytes from index a
 abbrev pub task_from : List ℕ → ℕ → Task ℕ
-task_from b a = record { number = half b a; place = half b (a + 2); parameter = signed (word b (a + 4)) }
+task_from b a = record {
+  number = half b a;
+  place = half b (a + 2);
+  parameter = signed (word b (a + 4));
+  history = record { spawner = half b (a + 8); taken_up = word b (a + 12) };
+}
 
--- the bytes of the first n tasks of a queue, of n unused records, and of the variables
+-- the bytes of the first n tasks of a queue, of the unused records of n tasks, and of the variables
 abbrev pub ring_rows : Queue → (n : ℕ) → List ℕ
 ring_rows q n = joined n (λ i. task_row (entry q i))
 
 abbrev pub unused_rows : (n : ℕ) → List ℕ
-unused_rows n = joined n (λ i. task_row no_task)
+unused_rows n = replicate (16 * n) 0
 
 abbrev pub value_rows : List ℤ → List ℕ
 value_rows vs = joined 64 (λ j. bytes4 (bits (get_or vs j (pos 0))))

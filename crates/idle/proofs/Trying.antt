@@ -19,7 +19,7 @@ use Rattle.rules.specs.State as R
 use Rattle.rules.specs.Log as L
 use Rattle.rules.specs.Log.{event_row}
 use Rattle.rules.specs.Scheduler.{Readiness, is_ready, Rules, can_go, goes, try_of, next, Ending, paused, logfull, stops, test, Run}
-use Rattle.rules.specs.Steps.{recipes, past_at}
+use Rattle.rules.specs.Steps.{counting, past_at, counted, recipes}
 use Rattle.rules.proofs.Lists.{every_map, get_or-tab}
 use Rattle.rules.proofs.Fit.{TaskFit}
 use Rattle.state.specs.declared.State as S
@@ -235,10 +235,10 @@ module _ (table : List ℕ) (w : Within (recipe_of table)) (s : S.State) where
       taken_up e =
           let t = entry s.queue k in
           let goes-on : ahead_in table c < length q = rw many some_go in
-          let x : next (recipes r) (turn k c) ≡ goes (some (L.taken f.first.number)) (record { store = c.store; active = some (past_at (at r f.first.place) f.first); queue = f.rest })
+          let x : next (recipes r) (turn k c) ≡ goes (some (L.taken f.first.number)) (record { store = c.store; active = some (counted counting (past_at (at r f.first.place) f.first)); queue = f.rest })
           = next-taken (recipes r) c.store q k f goes-on e t in
           let number = ap (λ (t : R.Task ℕ). t.number) (first_entry s.queue k inside) in
-          let after : R.State = record { store = c.store; active = some (past_at (at r f.first.place) f.first); queue = f.rest } in
+          let after : R.State = record { store = c.store; active = some (counted counting (past_at (at r f.first.place) f.first)); queue = f.rest } in
           tries_of r u budget given (count_after n d) log' (turn k c) d (told w a d log' (rw (x, number) (takes.all r after)))
           (λ y c' o g. let z : after ≡ c' = cc in sym z ∙ rw f.is refl)
 

@@ -7,7 +7,7 @@ use Rattle.rules.specs.Table.{recipe_of}
 use Rattle.rules.specs.Places.{at}
 use Rattle.rules.specs.State as R
 use Rattle.rules.specs.Scheduler.{no_number, Run}
-use Rattle.rules.specs.Steps.{recipes, past_at}
+use Rattle.rules.specs.Steps.{counting, past_at, counted, recipes}
 use Rattle.state.specs.declared.State as S
 use Rattle.ready.specs.declared.Wait.{Wait}
 use Rattle.ready.specs.declared.Wait.TheVariants.{Ready, Waits, AtGuard}
@@ -34,10 +34,10 @@ pub record Turning (table : List ℕ) (s : S.State) (k : ℕ) (log : List ℕ) (
 abbrev pub Idling : (table : List ℕ) → S.State → (budget : ℕ) → (log : List ℕ) → Count → Type 0
 Idling table s budget log n = Reached (recipe_of table) budget n log (idle s)
 
--- the front becomes active, past its await or its guard if it stood at one
+-- the front becomes active, past its await or its guard if it stood at one, and is counted
 abbrev pub took_up : Recipe → List (R.Task ℕ) → R.State → R.State
 took_up r [] c = c
-took_up r (t ∷ q) c = record { store = c.store; active = some (past_at (at r t.place) t); queue = q }
+took_up r (t ∷ q) c = record { store = c.store; active = some (counted counting (past_at (at r t.place) t)); queue = q }
 
 -- the call ends at the state c, or its front is taken up
 abbrev pub Tries : (r : Recipe) → Run (recipes r) → (budget : ℕ) → (given : List ℕ) → Count → (log : List ℕ) → R.State → Option Stop → Type 0

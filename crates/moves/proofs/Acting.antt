@@ -15,7 +15,7 @@ use Rattle.rules.specs.Places.{Point, stop, tests}
 use Rattle.rules.specs.Standing.{point_at}
 use Rattle.rules.specs.State.{Task}
 use Rattle.rules.specs.Scheduler.{no_number}
-use Rattle.rules.specs.Steps.{limits}
+use Rattle.rules.specs.Steps.{limits, counting}
 use Rattle.rules.proofs.NoValue.{needs-kind, lacking-halts}
 use Rattle.moves.specs.declared.Move.TheVariants.{Goes, Sets, Spawns, Gives, Waits, Ends}
 use Rattle.moves.specs.Moves.{Moves, store_with, into_body}
@@ -52,7 +52,7 @@ module _ (begin : ℕ → ℕ) (vs : List ℤ) (t : Task ℕ) where
 
     pub lacks-moves : 3 ≤ kind_of p → kind_of p ≤ 6 → none ≡ value (record { variables = vs; parameter = t.parameter }) (expr_of (inner p)) → Moves begin there vs t None
     lacks-moves low high is =
-        record { acts = λ issued q. lacking-halts begin limits there (store_with issued vs) q t (expr_of (inner p)) (needs-kind p i k low high) (sym is); named = tt }
+        record { acts = λ issued q. lacking-halts counting begin limits there (store_with issued vs) q t (expr_of (inner p)) (needs-kind p i k low high) (sym is); named = tt }
 
     module _ (z : ℤ) (is : some z ≡ value (record { variables = vs; parameter = t.parameter }) (expr_of (inner p))) where
       pub set-moves : kind_of p ≡ 3 → name_of p ≤ 64 → Moves begin there vs t (Some (Sets (name_of p) z k))

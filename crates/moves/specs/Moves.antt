@@ -10,7 +10,7 @@ use Rattle.rules.specs.Standing.{body_place, point_at, StandsAt}
 use Rattle.rules.specs.State.{Task, Store}
 use Rattle.rules.specs.Log.{Event, gave, waits, ended}
 use Rattle.rules.specs.Scheduler.{on, back, over, novalue, Act, halts, does}
-use Rattle.rules.specs.Steps.{limits, valve_of, env_of, go_to, moves, spawn_at, act_at}
+use Rattle.rules.specs.Steps.{limits, valve_of, counting, env_of, go_to, moves, spawn_at, act_at}
 use Rattle.moves.specs.declared.Move.{Move}
 use Rattle.moves.specs.declared.Move.TheVariants.{Goes, Sets, Spawns, Gives, Waits, Ends}
 
@@ -18,7 +18,7 @@ use Rattle.moves.specs.declared.Move.TheVariants.{Goes, Sets, Spawns, Gives, Wai
 abbrev pub act_of : Move → Store → List (Task ℕ) → Task ℕ → Act Store (Task ℕ) Event
 act_of (Goes k) s q t = does s [] (on (go_to t k)) none
 act_of (Sets n z k) s q t = moves s.issued (write (env_of s t) n z) t k [] (valve_of t.number n z)
-act_of (Spawns n p z k) s q t = spawn_at (limits (length q) s.issued) s t n p z k
+act_of (Spawns n p z k) s q t = spawn_at counting (limits (length q) s.issued) s t n p z k
 act_of (Gives k) s q t = does s [] (back (go_to t k)) (some (gave t.number))
 act_of (Waits z) s q t = does s [] (back t) (some (waits t.number z))
 act_of Ends s q t = does s [] over (some (ended t.number))
@@ -43,7 +43,7 @@ store_with issued variables = record { issued = issued; variables = variables }
 -- the move, if there is one, that the task t makes at the point x, with these variables, whatever number is issued and whoever is queued
 pub record Moves (begin : ℕ → ℕ) (x : Point ℕ) (variables : List ℤ) (t : Task ℕ) (m : P.Option Move) : Type 0 where
   pub acts : (issued : ℕ) (q : List (Task ℕ))
-      → act_at begin limits x (store_with issued variables) q t ≡ act_in m (store_with issued variables) q t
+      → act_at counting begin limits x (store_with issued variables) q t ≡ act_in m (store_with issued variables) q t
   pub named : IfSome m Named
 
 -- in a recipe, where t stands

@@ -5,11 +5,10 @@ use mathlib.Core.Path.{◌≡◌, refl, sym, ap, ap₂, ◌∙◌, subst}
 use mathlib.Core.Option.{Option, none, some}
 use mathlib.Core.List.{List, [], ◌∷◌, ◌++◌}
 use Rattle.rules.specs.Recipe.{Stmt, skip, assign, if, while, spawn, suspend, await, guard, Body, fin, ◌▸◌, Recipe, Env}
-use Rattle.rules.specs.State.{Task}
 use Rattle.rules.specs.Log.{Event}
 use Rattle.rules.specs.Scheduler.{Rules, Config, Next, goes, log_of}
 use Rattle.rules.specs.Steps.{Limits}
-use Rattle.paper.specs.Paper.{Queue, task, PaperState, WhileStep, skip_step, assign_step, if_true, if_false, while_true, while_false, unlimited, Rule, local, spawn_start, return, yield_suspend, yield_await, yield_guard, schedule_simple, schedule_await, schedule_guard, rotate_await, rotate_guard, Derivation, empty, rule_then, Name, Local, SpawnStart, Return, YieldSuspend, YieldAwait, YieldGuard, ScheduleSimple, ScheduleAwait, ScheduleGuardDone, ScheduleAwaitWait, ScheduleGuardWait, name_of}
+use Rattle.paper.specs.Paper.{PaperTask, Queue, task, PaperState, WhileStep, skip_step, assign_step, if_true, if_false, while_true, while_false, unlimited, Rule, local, spawn_start, return, yield_suspend, yield_await, yield_guard, schedule_simple, schedule_await, schedule_guard, rotate_await, rotate_guard, Derivation, empty, rule_then, Name, Local, SpawnStart, Return, YieldSuspend, YieldAwait, YieldGuard, ScheduleSimple, ScheduleAwait, ScheduleGuardDone, ScheduleAwaitWait, ScheduleGuardWait, name_of}
 use Rattle.paper.specs.Follows.{statements}
 use Rattle.paper.proofs.Exact.{Front, an_await, a-guard, another, front_b, kind, simple-front, rule-next}
 
@@ -29,7 +28,7 @@ abbrev name_b : Body → Name
 name_b fin = Return
 name_b (s ▸ k) = name_s s
 
-abbrev name_try : Front → (then : Option (Task Body)) → Name
+abbrev name_try : Front → (then : Option PaperTask) → Name
 name_try another a = ScheduleSimple
 name_try an_await none = ScheduleAwaitWait
 name_try an_await (some t) = ScheduleAwait
@@ -37,7 +36,7 @@ name_try a-guard none = ScheduleGuardWait
 name_try a-guard (some t) = ScheduleGuardDone
 
 -- (no rule applies to the empty queue)
-abbrev name_by : (active : Option (Task Body)) → Queue → (then : Option (Task Body)) → Name
+abbrev name_by : (active : Option PaperTask) → Queue → (then : Option PaperTask) → Name
 name_by (some t) q a = name_b t.place
 name_by none [] a = ScheduleSimple
 name_by none (t ∷ q) a = name_try (front_b t.place) a

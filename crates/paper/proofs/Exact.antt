@@ -13,13 +13,13 @@ use borrow.Author.Tests.{eq-eqb, le-leb, ltb-true, ltb-false, leb-true, eqb-true
 use Rattle.rules.specs.Values.{truth, is_true}
 use Rattle.rules.specs.Recipe.{Expr, Stmt, skip, assign, if, while, spawn, suspend, await, guard, Body, fin, ◌▸◌, Recipe, Env, read, write, value}
 use Rattle.rules.specs.Rest.{◌then◌, look}
-use Rattle.rules.specs.State.{Task, Store}
+use Rattle.rules.specs.State.{Store}
 use Rattle.rules.specs.Log.{Event, taken, gave, waits, ended}
 use Rattle.rules.specs.Scheduler.{Readiness, ready, waits_for, at_guard, is_ready, no_number, Rules, Stay, on, back, over, Halt, novalue, Act, does, is, count, is_live, readiness, can_go, any_go, Next, finish, jam, bar, goes, try_of, jam_or, stay, next_act, next}
 use Rattle.rules.specs.Steps.{Limits, is_done, valve_of, wait_at, past_at, needing, spawn_at}
 use Rattle.rules.proofs.Verdicts.{not_true}
-use Rattle.paper.specs.Paper.{Queue, task, PaperState, running, idle, env, memory, WhileStep, skip_step, assign_step, if_true, if_false, while_true, while_false, Any, here, there, InDom, Done, NotWaiting, Schedulable, simple, wait_over, guard_true, Rule, local, spawn_start, return, yield_suspend, yield_await, yield_guard, schedule_simple, schedule_await, schedule_guard, rotate_await, rotate_guard, Finished, finished, Stuck, stuck, needs, Lacking, lacking, Barred, limited, no_value}
-use Rattle.paper.specs.Follows.{statements}
+use Rattle.paper.specs.Paper.{PaperTask, Queue, task, PaperState, running, idle, env, memory, WhileStep, skip_step, assign_step, if_true, if_false, while_true, while_false, Any, here, there, InDom, Done, NotWaiting, Schedulable, simple, wait_over, guard_true, Rule, local, spawn_start, return, yield_suspend, yield_await, yield_guard, schedule_simple, schedule_await, schedule_guard, rotate_await, rotate_guard, Finished, finished, Stuck, stuck, needs, Lacking, lacking, Barred, limited, no_value}
+use Rattle.paper.specs.Follows.{keeping_none, statements}
 
 -- ---- an await in front, a guard, or another statement
 
@@ -54,8 +54,8 @@ pub data Kind : Body → Type 0 where
   guarded : {g : Expr} {s : Body} → Kind (guard g ▸ s)
   going : {s : Body}
       → front_b s ≡ another
-      → ((σ : Store) (l : ℕ → Bool) (t : Task Body) → wait_at (look s) σ l t ≡ ready)
-      → ((t : Task Body) → past_at (look s) t ≡ t)
+      → ((σ : Store) (l : ℕ → Bool) (t : PaperTask) → wait_at (look s) σ l t ≡ ready)
+      → ((t : PaperTask) → past_at (look s) t ≡ t)
       → Kind s
 
 pub kind : (s : Body) → Kind s
@@ -71,13 +71,13 @@ kind (await x ▸ s) = awaiting
 kind (guard e ▸ s) = guarded
 
 -- at another statement a task is ready, and is taken up where it stands
-simple-ready : {s : Body} → Kind s → NotWaiting s → (σ : Store) (l : ℕ → Bool) (t : Task Body)
+simple-ready : {s : Body} → Kind s → NotWaiting s → (σ : Store) (l : ℕ → Bool) (t : PaperTask)
     → wait_at (look s) σ l t ≡ ready
 simple-ready (awaiting {x} {s}) h σ l t = absurd (h.0 x s refl)
 simple-ready (guarded {g} {s}) h σ l t = absurd (h.1 g s refl)
 simple-ready (going h g p) _ σ l t = g σ l t
 
-simple_past : {s : Body} → Kind s → NotWaiting s → (t : Task Body) → past_at (look s) t ≡ t
+simple_past : {s : Body} → Kind s → NotWaiting s → (t : PaperTask) → past_at (look s) t ≡ t
 simple_past (awaiting {x} {s}) h t = absurd (h.0 x s refl)
 simple_past (guarded {g} {s}) h t = absurd (h.1 g s refl)
 simple_past (going h g p) _ t = p t
@@ -153,8 +153,8 @@ module _ (full : Limits) (r : Recipe) where
   -- ---- readiness, by the rules and by the test
 
   -- what the readiness of a queued task says, w being the whole queue
-  data Reads (w : Queue) (σ : Store) : Task Body → Readiness → Type 0 where
-    can_go_at : {t : Task Body} → Schedulable w σ t → Reads w σ t ready
+  data Reads (w : Queue) (σ : Store) : PaperTask → Readiness → Type 0 where
+    can_go_at : {t : PaperTask} → Schedulable w σ t → Reads w σ t ready
     has_to_wait : {f x : ℕ} {s : Body} {z : ℤ}
         → ¬ Done w σ (read (env σ z) x)
         → Reads w σ (task f (await x ▸ s) z) (waits_for (read (env σ z) x))
@@ -162,7 +162,7 @@ module _ (full : Limits) (r : Recipe) where
         → is_true (value (env σ z) g) ≡ false
         → Reads w σ (task f (guard g ▸ s) z) at_guard
 
-  reads-is : {w : Queue} {σ : Store} {t : Task Body} {v : Readiness} → Reads w σ t v → readiness S (idle w σ) t ≡ v
+  reads-is : {w : Queue} {σ : Store} {t : PaperTask} {v : Readiness} → Reads w σ t v → readiness S (idle w σ) t ≡ v
   unfolding look
   reads-is {w} {σ} (can_go_at (simple {f} {s} {z} h)) = simple-ready (kind s) h σ (is_live S w) (task f s z)
   reads-is {w} {σ} (can_go_at (wait_over {f} {x} {s} {z} d)) = rw (done_holds σ w (read (env σ z) x) d)
@@ -191,7 +191,7 @@ module _ (full : Limits) (r : Recipe) where
       go true h = let (v, e, t) = true_value (value (env σ z) g) h in can_go_at (guard_true e t)
       go false h = guard-untrue h
 
-  reads : (w : Queue) (σ : Store) (t : Task Body) → Reads w σ t (readiness S (idle w σ) t)
+  reads : (w : Queue) (σ : Store) (t : PaperTask) → Reads w σ t (readiness S (idle w σ) t)
   reads w σ t = reads_at (kind t.place) w σ t.number t.parameter
 
   any-goes : (w : Queue) (σ : Store) {q : Queue} → Any (Schedulable w σ) q → any_go S (idle w σ) q ≡ true
@@ -199,7 +199,7 @@ module _ (full : Limits) (r : Recipe) where
   any-goes w σ (there {t = t} h) = rw (any-goes w σ h) (or-true (can_go S (idle w σ) t))
 
   -- a queued task can go on, or one behind it can
-  front_or_behind : {w : Queue} {σ : Store} {t : Task Body} {v : Readiness} (q : Queue)
+  front_or_behind : {w : Queue} {σ : Store} {t : PaperTask} {v : Readiness} (q : Queue)
       → Reads w σ t v
       → (is_ready v || any_go S (idle w σ) q) ≡ true
       → (any_go S (idle w σ) q ≡ true → Any (Schedulable w σ) q)
@@ -215,12 +215,12 @@ module _ (full : Limits) (r : Recipe) where
   -- ---- a rule that applies is what comes next
 
   -- a step that spawns nothing
-  quiet : (σ : Store) (q : Queue) (y : Stay (Task Body)) (x : Option Event)
+  quiet : (σ : Store) (q : Queue) (y : Stay PaperTask) (x : Option Event)
       → next_act S q (does σ [] y x) ≡ goes x (stay S σ q y)
   quiet σ q y x = ap (λ (z : Queue). goes x (stay S σ z y)) (append-nil q)
 
   -- what is done with a value that is there
-  needed : {o : Option ℤ} {v : ℤ} (k : ℤ → Act Store (Task Body) Event) → o ≡ some v → needing o k ≡ k v
+  needed : {o : Option ℤ} {v : ℤ} (k : ℤ → Act Store PaperTask Event) → o ≡ some v → needing o k ≡ k v
   needed k h = rw h
 
   while-next : {f : ℕ} {s s' : Body} {σ σ' : Env} {event : Option Event} (n : ℕ) (q : Queue)
@@ -235,7 +235,7 @@ module _ (full : Limits) (r : Recipe) where
   while-next n q (while_false v h) = rw (v, h)
 
   -- the front is tried, if some task can go on
-  tries : {t : Task Body} {q : Queue} {σ : Store} {v : Readiness}
+  tries : {t : PaperTask} {q : Queue} {σ : Store} {v : Readiness}
       → Any (Schedulable (t ∷ q) σ) (t ∷ q)
       → Reads (t ∷ q) σ t v
       → next S (idle (t ∷ q) σ) ≡ try_of S v (idle (t ∷ q) σ) t q
@@ -254,7 +254,7 @@ module _ (full : Limits) (r : Recipe) where
   rule-next (yield_guard {f} {g} {s} {z} {q} {σ}) = quiet σ q (back (task f (guard g ▸ s) z)) (some (waits f no_number))
   rule-next (schedule_simple {f} {s} {z} {q} {σ} h) =
       tries (here (simple h)) (can_go_at (simple h))
-      ∙ ap (λ (t : Task Body). goes (some (taken f)) (running t q σ)) (simple_past (kind s) h (task f s z))
+      ∙ ap (λ (t : PaperTask). goes (some (taken f)) (running t q σ)) (simple_past (kind s) h (task f s z))
   rule-next (schedule_await d) = tries (here (wait_over d)) (can_go_at (wait_over d))
   rule-next (schedule_guard v h) = tries (here (guard_true v h)) (can_go_at (guard_true v h))
   rule-next (rotate_await n any) = tries any (has_to_wait n)
@@ -293,7 +293,7 @@ module _ (full : Limits) (r : Recipe) where
   Says c (bar k) = Barred full k c
   Says c (goes x d) = Rule full r c x d
 
-  says_quiet : {c : PaperState} (σ : Store) (q : Queue) (y : Stay (Task Body)) (x : Option Event)
+  says_quiet : {c : PaperState} (σ : Store) (q : Queue) (y : Stay PaperTask) (x : Option Event)
       → Rule full r c x (stay S σ q y)
       → Says c (next_act S q (does σ [] y x))
   says_quiet {c} σ q y x h = subst (Says c) (sym (quiet σ q y x)) h
@@ -312,13 +312,13 @@ module _ (full : Limits) (r : Recipe) where
       → full (length q) σ.issued ≡ o
       → Says
       (running (task f (spawn x m e ▸ s) z) q σ)
-      (next_act S q (spawn_at o σ (task f (spawn x m e ▸ s) z) x (get_or r m fin) v s))
+      (next_act S q (spawn_at keeping_none o σ (task f (spawn x m e ▸ s) z) x (get_or r m fin) v s))
   says-spawn σ f x m e s z q v (some k) d w h = limited w h
   says-spawn σ f x m e s z q v none d w h = spawn_start d w h
 
   -- what is done with a value that the step needs
   says-needing : (σ : Store) (f : ℕ) (i : Stmt) (e : Expr) (s : Body) (z : ℤ) (q : Queue)
-      (k : ℤ → Act Store (Task Body) Event)
+      (k : ℤ → Act Store PaperTask Event)
       → needs i ≡ some e
       → ((v : ℤ) → value (env σ z) e ≡ some v → Says (running (task f (i ▸ s) z) q σ) (next_act S q (k v)))
       → Says (running (task f (i ▸ s) z) q σ) (next_act S q (needing (value (env σ z) e) k))
@@ -364,7 +364,7 @@ module _ (full : Limits) (r : Recipe) where
       says_quiet σ q (back (task f (guard g ▸ s) z)) (some (waits f no_number)) yield_guard
 
   -- the front is taken up, or turned if another can go on
-  says_try : {t : Task Body} {σ : Store} {v : Readiness} (q : Queue)
+  says_try : {t : PaperTask} {σ : Store} {v : Readiness} (q : Queue)
       → Any (Schedulable (t ∷ q) σ) (t ∷ q)
       → Reads (t ∷ q) σ t v
       → Says (idle (t ∷ q) σ) (try_of S v (idle (t ∷ q) σ) t q)
@@ -386,11 +386,11 @@ module _ (full : Limits) (r : Recipe) where
       go true e = says_try q (goes-any (t ∷ q) σ (t ∷ q) e) (reads (t ∷ q) σ t)
       go false e = stuck (λ g. true≢false (sym (any-goes (t ∷ q) σ g) ∙ e))
 
-  abbrev pub DeclaredIn : Option (Task Body) → Type 0
+  abbrev pub DeclaredIn : Option PaperTask → Type 0
   DeclaredIn none = Unit {0}
   DeclaredIn (some t) = Declared t.place
 
-  says_of : (σ : Store) (a : Option (Task Body)) (q : Queue)
+  says_of : (σ : Store) (a : Option PaperTask) (q : Queue)
       → DeclaredIn a
       → Says (record { store = σ; active = a; queue = q }) (next S (record { store = σ; active = a; queue = q }))
   says_of σ none q d = says-idle q σ

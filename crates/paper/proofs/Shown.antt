@@ -17,14 +17,14 @@ use Rattle.rules.specs.Rest.{rest, look}
 use Rattle.rules.specs.State.{Task, Store, State}
 use Rattle.rules.specs.Log.{Event}
 use Rattle.rules.specs.Scheduler.{Rules, Readiness, ready, waits_for, at_guard, is_ready, Stay, on, back, over, Halt, Act, halts, does, is, count, is_live, readiness, any_go, Next, finish, jam, bar, goes, try_of, jam_or, next_idle, stay, next_act, next}
-use Rattle.rules.specs.Steps.{Limits, env_of, wait_at, past_at, needing, spawn_at, act_at}
+use Rattle.rules.specs.Steps.{Limits, counting, env_of, wait_at, past_at, needing, spawn_at, act_at}
 use Rattle.rules.specs.Fairness.{Every}
 use Rattle.rules.proofs.Lists.{every_append}
 use Rattle.rules.proofs.Ranges.{either}
 use Rattle.rules.proofs.Places.{Fits, none_fits, stop-fits, skip-fits, assign-fits, if-fits, while-fits, spawn-fits, suspend-fits, await-fits, guard-fits, fits, starts, spawn-named, Leads, leads, start-place}
 use Rattle.rules.proofs.NoValue.{needing_all}
-use Rattle.paper.specs.Paper.{Queue}
-use Rattle.paper.specs.Follows.{places, statements, to_do, shown_task, shown, shown_next, Placed}
+use Rattle.paper.specs.Paper.{PaperTask, Queue}
+use Rattle.paper.specs.Follows.{keeping_none, places, statements, to_do, shown_task, shown, shown_next, Placed}
 
 -- ---- what stands at a place
 
@@ -134,12 +134,12 @@ module _ (r : Recipe) where
 
   -- ---- what the active task does
 
-  abbrev shown_stay : Stay (Task ℕ) → Stay (Task Body)
+  abbrev shown_stay : Stay (Task ℕ) → Stay PaperTask
   shown_stay (on t) = on (shown_task r t)
   shown_stay (back t) = back (shown_task r t)
   shown_stay over = over
 
-  abbrev shown_act : Act Store (Task ℕ) Event → Act Store (Task Body) Event
+  abbrev shown_act : Act Store (Task ℕ) Event → Act Store PaperTask Event
   shown_act (halts l) = halts l
   shown_act (does s new y x) = does s (shown_queue new) (shown_stay y) x
 
@@ -153,21 +153,21 @@ module _ (r : Recipe) where
   AtAct (does s new y x) = Every At new × AtStay y
 
   -- what needs a value
-  shown-needing : (o : Option ℤ) (g : ℤ → Act Store (Task Body) Event) (f : ℤ → Act Store (Task ℕ) Event)
+  shown-needing : (o : Option ℤ) (g : ℤ → Act Store PaperTask Event) (f : ℤ → Act Store (Task ℕ) Event)
       → ((z : ℤ) → g z ≡ shown_act (f z))
       → needing o g ≡ shown_act (needing o f)
   shown-needing none g f h = refl
   shown-needing (some z) g f h = h z
 
   shown-spawn : (o : Option Halt) (s : Store) (t : Task ℕ) (v p : ℕ) (z : ℤ) (k : ℕ)
-      → spawn_at o s (shown_task r t) v (to_do r p) z (to_do r k) ≡ shown_act (spawn_at o s t v p z k)
+      → spawn_at keeping_none o s (shown_task r t) v (to_do r p) z (to_do r k) ≡ shown_act (spawn_at counting o s t v p z k)
   shown-spawn none s t v p z k = refl
   shown-spawn (some l) s t v p z k = refl
 
   spawn_at_lem : (o : Option Halt) (s : Store) (t : Task ℕ) (v p : ℕ) (z : ℤ) (k : ℕ)
       → is_place r p ≡ true
       → is_place r k ≡ true
-      → AtAct (spawn_at o s t v p z k)
+      → AtAct (spawn_at counting o s t v p z k)
   spawn_at_lem none s t v p z k g h = ((g, tt), h)
   spawn_at_lem (some l) s t v p z k g h = tt
 
@@ -186,12 +186,12 @@ module _ (full : Limits) (r : Recipe) (w : Within r) where
   begins p l = ap (λ (o : Option Body). Option.get_or o fin) (sym (starts r p l))
 
   -- what the same task does over statements
-  abbrev act_s : Point Body → Store → List (Task ℕ) → Task ℕ → Act Store (Task Body) Event
-  act_s p s q t = act_at (λ m. get_or r m fin) full p s (shown_queue r q) (shown_task r t)
+  abbrev act_s : Point Body → Store → List (Task ℕ) → Task ℕ → Act Store PaperTask Event
+  act_s p s q t = act_at keeping_none (λ m. get_or r m fin) full p s (shown_queue r q) (shown_task r t)
 
   shown-act : (p : Point ℕ) (s : Store) (q : List (Task ℕ)) (t : Task ℕ)
       → Leads r p
-      → act_s (shown_point (rest r) p) s q t ≡ shown_act r (act_at (start r) full p s q t)
+      → act_s (shown_point (rest r) p) s q t ≡ shown_act r (act_at counting (start r) full p s q t)
   shown-act nowhere s q t h = refl
   shown-act stop s q t h = refl
   shown-act (skips k) s q t h = refl
@@ -200,7 +200,7 @@ module _ (full : Limits) (r : Recipe) (w : Within r) where
       shown-needing r (value (env_of s t) e) _ _ (λ z. rw (shown-cond r (truth z) k l))
   shown-act (spawns v p e k) s q t h =
       shown-needing r (value (env_of s t) e) _ _
-      (λ z. ap₂ (λ (j : ℕ) (b : Body). spawn_at (full j s.issued) s (shown_task r t) v b z (to_do r k))
+      (λ z. ap₂ (λ (j : ℕ) (b : Body). spawn_at keeping_none (full j s.issued) s (shown_task r t) v b z (to_do r k))
       (length-map q (shown_task r)) (begins p h.2)
       ∙ shown-spawn r (full (length q) s.issued) s t v (start r p) z k)
   shown-act (suspends k) s q t h = refl
@@ -210,7 +210,7 @@ module _ (full : Limits) (r : Recipe) (w : Within r) where
   act_at_lem : (p : Point ℕ) (s : Store) (q : List (Task ℕ)) (t : Task ℕ)
       → Leads r p
       → At r t
-      → AtAct r (act_at (start r) full p s q t)
+      → AtAct r (act_at counting (start r) full p s q t)
   act_at_lem nowhere s q t h a = (tt, tt)
   act_at_lem stop s q t h a = (tt, tt)
   act_at_lem (skips k) s q t h a = (tt, h)

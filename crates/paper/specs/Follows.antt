@@ -11,24 +11,28 @@ use Rattle.rules.specs.Rest.{rest, look}
 use Rattle.rules.specs.State.{Task, State, live, fresh, check_block, read_block}
 use Rattle.rules.specs.Log.{Event, log_bytes}
 use Rattle.rules.specs.Scheduler.{Halt, Rules, Next, finish, jam, bar, goes, next}
-use Rattle.rules.specs.Steps.{Limits, limits, machine}
+use Rattle.rules.specs.Steps.{Limits, limits, Keeping, counting, machine}
 use Rattle.rules.specs.Fairness.{Every}
 use Rattle.rules.specs.Run.{Outcome, run_on}
 use Rattle.rules.specs.Demand.{Bytes, written}
-use Rattle.paper.specs.Paper.{task, PaperState, initial, InDom, next_id, unlimited, Rule, Applies, Derivation, Finished, Stuck, Lacking, Barred, name_of}
+use Rattle.paper.specs.Paper.{PaperTask, task, PaperState, initial, InDom, next_id, unlimited, Rule, Applies, Derivation, Finished, Stuck, Lacking, Barred, name_of}
 
 -- document 01's steps, with any limits (with its own they are `recipes r`); the same machine over statements
 abbrev pub places : Limits → Recipe → Rules
-places full r = machine (at r) (start r) full
+places full r = machine counting (at r) (start r) full
+
+-- nothing is kept of a task
+abbrev pub keeping_none : Keeping (Unit {0})
+keeping_none = record { born = λ n. tt; raised = λ h. tt }
 
 abbrev pub statements : Limits → Recipe → Rules
-statements full r = machine look (λ m. get_or r m fin) full
+statements full r = machine keeping_none look (λ m. get_or r m fin) full
 
--- What a state shows: the statements still to do for each place, and all else as it is.
+-- What a state shows: the statements still to do for each place, no history, and all else as it is.
 abbrev pub to_do : Recipe → ℕ → Body
 to_do r i = Option.get_or (rest r i) fin
 
-abbrev pub shown_task : Recipe → Task ℕ → Task Body
+abbrev pub shown_task : Recipe → Task ℕ → PaperTask
 shown_task r t = task t.number (to_do r t.place) t.parameter
 
 abbrev pub shown : Recipe → State → PaperState

@@ -8,7 +8,7 @@ use Rattle.std.proofs.Math.Option.{Option, none, some}
 use Rattle.rules.specs.Values.{truth, is_true}
 use Rattle.rules.specs.Recipe.{Expr, Stmt, skip, assign, if, while, spawn, suspend, await, guard, Body, fin, ◌▸◌, Recipe, Env, read, write, value}
 use Rattle.rules.specs.Rest.{◌then◌}
-use Rattle.rules.specs.State.{Task, Store, Configuration}
+use Rattle.rules.specs.State.{Kept, Store, Configuration}
 use Rattle.rules.specs.Log.{Event, spawned, taken, gave, waits, turned, ended}
 use Rattle.rules.specs.Scheduler.{no_number, Halt, novalue, log_of}
 use Rattle.rules.specs.Steps.{Limits, valve_of}
@@ -16,23 +16,27 @@ use Rattle.rules.specs.Steps.{Limits, valve_of}
 -- ---- configurations
 
 -- The suspended tasks: "we let q range over queues of pairs of task identifiers f and statements s". A task's place is
--- here the statements that it has still to do. Its parameter, in the paper a fresh name of the memory, is its own.
-abbrev pub Queue : Type 0
-Queue = List (Task Body)
+-- here the statements that it has still to do. Its parameter, in the paper a fresh name of the memory, is its own. Nothing
+-- else is kept of a task: neither who spawned it nor how often it was taken up.
+abbrev pub PaperTask : Type 0
+PaperTask = Kept Body (Unit {0})
 
-abbrev pub task : (f : ℕ) → (s : Body) → (z : ℤ) → Task Body
-task f s z = record { number = f; place = s; parameter = z }
+abbrev pub Queue : Type 0
+Queue = List PaperTask
+
+abbrev pub task : (f : ℕ) → (s : Body) → (z : ℤ) → PaperTask
+task f s z = record { number = f; place = s; parameter = z; history = tt }
 
 -- "push(q, k) returns q extended with k as its final element"
-abbrev pub push : Queue → Task Body → Queue
+abbrev pub push : Queue → PaperTask → Queue
 push q k = q ++ (k ∷ [])
 
 -- with the variables the memory σ has the highest identifier issued
 abbrev pub PaperState : Type 0
-PaperState = Configuration Store (Task Body)
+PaperState = Configuration Store (PaperTask)
 
 -- "f · s, T, σ, when exactly one task with identifier f and current statement s is active"
-abbrev pub running : Task Body → Queue → Store → PaperState
+abbrev pub running : PaperTask → Queue → Store → PaperState
 running t q σ = record { store = σ; active = some t; queue = q }
 
 -- "Idle, T, σ when no task is currently active"
@@ -81,9 +85,9 @@ pub data WhileStep (f : ℕ) : Body → Env → Option Event → Body → Env �
 -- ---- waiting
 
 -- some task of a queue
-pub data Any (P : Task Body → Type 0) : Queue → Type 0 where
-  here : {t : Task Body} {q : Queue} → P t → Any P (t ∷ q)
-  there : {t : Task Body} {q : Queue} → Any P q → Any P (t ∷ q)
+pub data Any (P : PaperTask → Type 0) : Queue → Type 0 where
+  here : {t : PaperTask} {q : Queue} → P t → Any P (t ∷ q)
+  there : {t : PaperTask} {q : Queue} → Any P q → Any P (t ∷ q)
 
 -- "f ∈ dom(T)"
 abbrev pub InDom : (f : ℕ) → Queue → Type 0
@@ -106,7 +110,7 @@ abbrev pub NotWaiting : Body → Type 0
 NotWaiting s = ((x : ℕ) (s' : Body) → ¬ (s ≡ await x ▸ s')) × ((g : Expr) (s' : Body) → ¬ (s ≡ guard g ▸ s'))
 
 -- at the front a scheduling rule would take the task up
-pub data Schedulable (q : Queue) (σ : Store) : Task Body → Type 0 where
+pub data Schedulable (q : Queue) (σ : Store) : PaperTask → Type 0 where
   simple : {f : ℕ} {s : Body} {z : ℤ} → NotWaiting s → Schedulable q σ (task f s z)
   wait_over : {f x : ℕ} {s : Body} {z : ℤ}
       → Done q σ (read (env σ z) x)
@@ -225,7 +229,7 @@ pub data Finished : PaperState → Type 0 where
 
 -- "a configuration of the form sh, (Idle, q), where q ≠ ∅ and no rule is applicable, indicates a deadlock"
 pub data Stuck : PaperState → Type 0 where
-  stuck : {t : Task Body} {q : Queue} {σ : Store}
+  stuck : {t : PaperTask} {q : Queue} {σ : Store}
       → ¬ Any (Schedulable (t ∷ q) σ) (t ∷ q)
       → Stuck (idle (t ∷ q) σ)
 

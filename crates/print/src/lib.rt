@@ -117,7 +117,7 @@ pub fn print_recipe(table: &[u8], out: &mut [u8; 131072]) -> usize
     ensures text { (result ≡ length (printed table.now)) × (out.new ≡ printed table.now ++ drop result out.old) }
     ensures counts { Counts result out.new }
 {
-    let mut state = [0u8; 520];
+    let mut state = [0u8; 776];
     let mut log = [0u8; 32768];
     put_text(out, table, &mut state, &mut log)
 }

@@ -19,7 +19,7 @@ use Rattle.rules.specs.Recipe.{Expr, Recipe, read, value}
 use Rattle.rules.specs.Table.{kind_of, name_of, span_of, inner, expr_of, records, fine, check, recipe_of}
 use Rattle.rules.specs.Places.{Point, nowhere, stop, skips, assigns, tests, spawns, suspends, awaits, guards, at, is_place}
 use Rattle.rules.specs.Standing.{next_of, point_at, at_place, Opens, StandsAt}
-use Rattle.rules.specs.State.{Task, Store, State}
+use Rattle.rules.specs.State.{History, Task, Store, State}
 use Rattle.rules.specs.Scheduler.{ready, waits_for, at_guard, is_ready, is_live, can_go}
 use Rattle.rules.specs.Steps.{is_done, env_of, go_to, wait_at, past_at, recipes}
 use Rattle.rules.proofs.Verdicts.{and_true}
@@ -155,25 +155,25 @@ waits_at (guards e k) s live t z h = by (is_true (value (env_of s t) e)) h
     by false g = let z : ◌≡◌ {A = ℕ} 0 1 = cc in absurd (omega arith)
 
 -- of a task only its parameter is read, and where it stands
-same-wait : (x : Point ℕ) (s : Store) (live : ℕ → Bool) (n m p q : ℕ) (z : ℤ)
-    → wait_at x s live (record { number = n; place = p; parameter = z }) ≡ wait_at x s live (record { number = m; place = q; parameter = z })
-same-wait nowhere s live n m p q z = refl
-same-wait stop s live n m p q z = refl
-same-wait (skips k) s live n m p q z = refl
-same-wait (assigns v e k) s live n m p q z = refl
-same-wait (tests e k l) s live n m p q z = refl
-same-wait (spawns v w e k) s live n m p q z = refl
-same-wait (suspends k) s live n m p q z = refl
-same-wait (awaits v k) s live n m p q z = refl
-same-wait (guards e k) s live n m p q z = refl
+same-wait : (x : Point ℕ) (s : Store) (live : ℕ → Bool) (n m p q : ℕ) (z : ℤ) (h i : History)
+    → wait_at x s live (record { number = n; place = p; parameter = z; history = h }) ≡ wait_at x s live (record { number = m; place = q; parameter = z; history = i })
+same-wait nowhere s live n m p q z h i = refl
+same-wait stop s live n m p q z h i = refl
+same-wait (skips k) s live n m p q z h i = refl
+same-wait (assigns v e k) s live n m p q z h i = refl
+same-wait (tests e k l) s live n m p q z h i = refl
+same-wait (spawns v w e k) s live n m p q z h i = refl
+same-wait (suspends k) s live n m p q z h i = refl
+same-wait (awaits v k) s live n m p q z h i = refl
+same-wait (guards e k) s live n m p q z h i = refl
 
 -- so tasks that stand alike are ready or wait together
 pub same_go : (r : Recipe) (c : State) (t u : Task ℕ) → t.place ≡ u.place → t.parameter ≡ u.parameter → can_go (recipes r) c t ≡ can_go (recipes r) c u
 same_go r c t u e g =
     let live = is_live (recipes r) c.queue in
     ap is_ready
-    (same-wait (at r t.place) c.store live t.number u.number t.place u.place t.parameter
-    ∙ ap₂ (λ (p : ℕ) (z : ℤ). wait_at (at r p) c.store live (record { number = u.number; place = u.place; parameter = z })) e g)
+    (same-wait (at r t.place) c.store live t.number u.number t.place u.place t.parameter t.history u.history
+    ∙ ap₂ (λ (p : ℕ) (z : ℤ). wait_at (at r p) c.store live (record { number = u.number; place = u.place; parameter = z; history = u.history })) e g)
 
 -- what a task waits for is not done
 pub waits_not_done : (table : List ℕ) (c : State) (t : Task ℕ) (z : ℤ) → ready_in table c t ≡ waits_for z → NotDone table c z

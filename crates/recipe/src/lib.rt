@@ -7,7 +7,7 @@ ghost use Rattle.rules.specs.Run.{start_on, run_on};
 ghost use Rattle.rules.specs.Answers.{StartAnswers, StartSays, RunAnswers, RunSays};
 ghost use Rattle.rules.specs.Why.{why_on, WhySays};
 ghost use Rattle.rules.specs.Batch.{checked, check_all_on, BatchSays};
-ghost use Rattle.runner.specs.Calls.{started_of, outcome_of, called, MeetsDemand, ContinuesAsOne};
+ghost use Rattle.runner.specs.Calls.{started_of, outcome_of, called, MeetsDemand, ContinuesAsOne, KeepsHistories};
 ghost use Rattle.why.specs.Explained.{explained_of, AfterStuck};
 
 use batch::check_all;
@@ -19,6 +19,7 @@ pub extern "C" fn recipe_start(table: &[u8], state: &mut [u8]) -> Started
     ensures state_after { started_of result state.new ≡ start_on table.now state.old }
     ensures start_answers { StartAnswers state.old (started_of result state.new) }
     ensures start_says { StartSays table.now state.old (started_of result state.new) }
+    ensures keeps_histories { KeepsHistories table.now (started_of result state.new) }
 {
     start(table, state)
 }

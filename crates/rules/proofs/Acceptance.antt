@@ -5,14 +5,16 @@ use Prim.Native.Nat.{ℕ}
 use mathlib.Core.Path.{◌≡◌, refl, ap}
 use mathlib.Core.Bool.{Bool, true, false, true≢false}
 use mathlib.Core.Option.{none, some}
+use mathlib.Core.List.{[]}
 use native.Mathlib.Omega.{arith}
 use Rattle.rules.specs.State.{State}
 use Rattle.rules.specs.Scheduler.{Next, finish, jam, bar, goes}
 use Rattle.rules.specs.Answers.{refuses, published}
+use Rattle.rules.specs.Demand.{logs_written}
 use Rattle.rules.specs.Why as W
 use Rattle.rules.specs.Batch as B
 use Rattle.rules.specs.Trial.{rows, start_rows, why_rows, batch_rows, outcome_of, all_pass, all_start, all_why, all_batch, refusals, returned, why_returned, batch_returned, those}
-use Rattle.rules.specs.Witness.{rules, moments, Counts, NoChain}
+use Rattle.rules.specs.Witness.{rules, moments, Counts, NoChain, NoHistory}
 use Rattle.rules.proofs.Computed.{meaning}
 
 pub rows_hold : all_pass rows ≡ true
@@ -51,6 +53,9 @@ witness_counts = record {
   bursts = refl;
   given_out_holds = refl;
   often = refl;
+  taken_up = refl;
+  spawned_it = refl;
+  spawned_none = refl;
   ended = refl;
   in_turn = refl;
   put_back = refl;
@@ -74,4 +79,16 @@ unfolding meaning tells
 no_chain_lem = record {
   elsewhere = λ e. let z : ◌≡◌ {A = ℕ} 1 3 = ap (λ (c : State). c.store.issued) e in omega arith;
   another = λ c h. true≢false (ap tells h.1.1);
+}
+
+pub no_history_lem : NoHistory
+unfolding meaning logs_written
+no_history_lem = record {
+  unnamed = λ e. omega arith;
+  another = λ e. omega arith;
+  twice = λ s e. e;
+  active_counted = λ h. let e : 1 ≡ 0 = (h.told [] refl).0.count in omega arith;
+  queued_counted = λ h. let e : 1 ≡ 0 = (h.told [] refl).0.count in omega arith;
+  active_spawned = λ h. let e : 1 ≡ 0 = (h.told [] refl).0.starter in omega arith;
+  queued_spawned = λ h. let e : 1 ≡ 0 = (h.told [] refl).0.starter in omega arith;
 }

@@ -13,7 +13,7 @@ use borrow.Author.Tests.{eqb-true}
 use Rattle.rules.specs.Fields.{bits, bytes4}
 use Rattle.rules.specs.Recipe.{Recipe, Body, skip, assign, if, while, spawn, suspend, await, guard, fin, ◌▸◌}
 use Rattle.rules.specs.Table.{Verdict, fine, fault, ◌else◌, unless, Sort, procedure, statement, expression, Ends, at_end, before_end, within, Encloses, nothing, statements, one_expression, expression_statements, two_expressions, record_fault, enclosed, check_e, levels, first_row, rows_of, check_rows, check_spawns, names_none, procedures, records, length_fits, check, body_of, read_r, recipe_of, inner, after, kind_of, kind_row, is_of, span_right, name_right, value_right}
-use Rattle.rules.specs.State.{State, live, fresh, tab, joined, head_fits, unlike, task_fits, unused_fits, record_fits, check_records, check_block, live_in, issued_in, read_block, write_block, head_row, task_row, no_task}
+use Rattle.rules.specs.State.{live, State, fresh, tab, joined, issued_in, live_in, head_fits, unlike, task_fits, spawner_fits, history_fits, unused_fits, record_fits, check_records, check_block, read_block, head_row, task_row, no_task, write_block}
 use Rattle.rules.specs.Log.{Event, spawned, taken, gave, waits, turned, ended, valve, event_row, log_bytes}
 use Rattle.rules.specs.Scheduler.{Ending, finished, paused, stuck, logfull, halted, tasks, spent, novalue, number_of, run, ending, last, log}
 use Rattle.rules.specs.Run as R
@@ -99,8 +99,8 @@ records-number place b (suc n) i = chosen of_block (record_fits place b i) _ (fa
 pub block-number : (place : ℕ → Bool) (b : List ℕ) → Numbers of_block (check_block place b)
 unfolding check_block
 block-number place b =
-    chosen of_block (eqb (length b) 520) _ (fault 21 0)
-    (either of_block (check_records place b 33 0) _ (records-number place b 33 0) (chosen of_block (leb (live_in b) (issued_in b)) fine (fault 23 0) tt refl)) refl
+    chosen of_block (eqb (length b) 776) _ (fault 21 0)
+    (either of_block (check_records place b 65 0) _ (records-number place b 65 0) (chosen of_block (leb (live_in b) (issued_in b)) fine (fault 23 0) tt refl)) refl
 
 -- ---- lengths
 
@@ -119,12 +119,12 @@ unfolding log_bytes
 log_length [] = refl
 log_length (x ∷ xs) = omega (arith, length-append (event_row x) (log_bytes xs), event-length x, log_length xs)
 
-pub block_length : (c : State) → length (write_block c) ≡ 520
+pub block_length : (c : State) → length (write_block c) ≡ 776
 unfolding write_block head_row task_row
 block_length c =
     let tasks = joined 32 (λ i. task_row (get_or (live c) i no_task)) in
     let variables = joined 64 (λ j. bytes4 (bits (get_or c.store.variables j (pos 0)))) in
-    omega (arith, length-append tasks variables, joined_length 8 32 (λ i. task_row (get_or (live c) i no_task)) (λ i. refl), joined_length 4 64 (λ j. bytes4 (bits (get_or c.store.variables j (pos 0)))) (λ j. refl))
+    omega (arith, length-append tasks variables, joined_length 16 32 (λ i. task_row (get_or (live c) i no_task)) (λ i. refl), joined_length 4 64 (λ j. bytes4 (bits (get_or c.store.variables j (pos 0)))) (λ j. refl))
 
 -- ---- every answer
 
@@ -161,17 +161,17 @@ opened_number t b n i e = go (check t else check_block (is_place (recipe_of t)) 
     go (fault m j) h e = let z : m ≡ n = cc in rw (← z) h
     go fine h e = absurd (let z : ◌≡◌ {A = ℕ} 0 1 = cc in omega arith)
 
--- what opens has a block of 520 bytes
-opened_length : (t b : List ℕ) (r : Recipe) (c : State) → open_on t b ≡ opens r c → length b ≡ 520
+-- what opens has a block of 776 bytes
+opened_length : (t b : List ℕ) (r : Recipe) (c : State) → open_on t b ≡ opens r c → length b ≡ 776
 unfolding open_on check_block
-opened_length t b r c e = go (check t) (eqb (length b) 520) refl e
+opened_length t b r c e = go (check t) (eqb (length b) 776) refl e
   where
-    go : (v : Verdict) (x : Bool) → eqb (length b) 520 ≡ x → open_with (v else cond x (check_records (is_place (recipe_of t)) b 33 0 else cond (leb (live_in b) (issued_in b)) fine (fault 23 0)) (fault 21 0)) (recipe_of t) b ≡ opens r c → length b ≡ 520
-    go v true h e = eqb-true (length b) 520 h
+    go : (v : Verdict) (x : Bool) → eqb (length b) 776 ≡ x → open_with (v else cond x (check_records (is_place (recipe_of t)) b 65 0 else cond (leb (live_in b) (issued_in b)) fine (fault 23 0)) (fault 21 0)) (recipe_of t) b ≡ opens r c → length b ≡ 776
+    go v true h e = eqb-true (length b) 776 h
     go fine false h e = absurd (let z : ◌≡◌ {A = ℕ} 0 1 = cc in omega arith)
     go (fault m j) false h e = absurd (let z : ◌≡◌ {A = ℕ} 0 1 = cc in omega arith)
 
-outcome-answers : (r : Recipe) (budget : ℕ) (c : State) (b l : List ℕ) → length b ≡ 520 → RunAnswers b l (outcome r (run (recipes r) budget (room_of l) c) l)
+outcome-answers : (r : Recipe) (budget : ℕ) (c : State) (b l : List ℕ) → length b ≡ 776 → RunAnswers b l (outcome r (run (recipes r) budget (room_of l) c) l)
 unfolding outcome
 outcome-answers r budget c b l h =
     let u = run (recipes r) budget (room_of l) c in
@@ -199,11 +199,11 @@ run-answers t b budget l = go (open_on t b) refl
 
 pub start-answers : (t b : List ℕ) → StartAnswers b (start_on t b)
 unfolding start_on
-start-answers t b = go (check t) (eqb (length b) 520) (check-number t) refl
+start-answers t b = go (check t) (eqb (length b) 776) (check-number t) refl
   where
-    go : (v : Verdict) (x : Bool) → Numbers of_table v → eqb (length b) 520 ≡ x → StartAnswers b (start_with (v else cond x fine (fault 21 0)) b)
+    go : (v : Verdict) (x : Bool) → Numbers of_table v → eqb (length b) 776 ≡ x → StartAnswers b (start_with (v else cond x fine (fault 21 0)) b)
     go fine true h e =
-        record { listed = refl; refusal_keeps = λ z. absurd (true≢false (sym z)); block_length = block_length fresh ∙ sym (eqb-true (length b) 520 e) }
+        record { listed = refl; refusal_keeps = λ z. absurd (true≢false (sym z)); block_length = block_length fresh ∙ sym (eqb-true (length b) 776 e) }
     go fine false h e = record { listed = refl; refusal_keeps = λ z. refl; block_length = refl }
     go (fault n i) x h e = record { listed = rw h refl; refusal_keeps = λ z. refl; block_length = refl }
 
@@ -230,7 +230,7 @@ some_recipe [] e = absurd (let z : ◌≡◌ {A = ℕ} 0 1 = cc in omega arith)
 some_recipe (x ∷ t) e = rw (eqb-suc-zero (length t)) (first-place (body_of (inner (x ∷ t))) (read_r (length t) (after (x ∷ t))))
 
 pub fresh-fits : (place : ℕ → Bool) → place 1 ≡ true → check_block place (write_block fresh) ≡ fine
-unfolding fresh write_block head_row task_row joined check_block check_records record_fits head_fits task_fits unused_fits unlike
+unfolding fresh write_block head_row task_row joined check_block check_records record_fits head_fits task_fits spawner_fits history_fits unused_fits unlike
 fresh-fits place h = rw h refl
 
 pub fresh-read : read_block (write_block fresh) ≡ fresh
@@ -238,7 +238,7 @@ unfolding fresh write_block head_row task_row joined read_block tab
 fresh-read = refl
 
 -- For every accepted table start writes a block that run accepts, and reads as the fresh state.
-pub fresh-accepted : (t b : List ℕ) → check t ≡ fine → length b ≡ 520 → open_on t (start_on t b).block ≡ opens (recipe_of t) fresh
+pub fresh-accepted : (t b : List ℕ) → check t ≡ fine → length b ≡ 776 → open_on t (start_on t b).block ≡ opens (recipe_of t) fresh
 unfolding start_on open_on
 fresh-accepted t b e h =
     rw (e, h, fresh-fits (is_place (recipe_of t)) (some_recipe t e), fresh-read) refl

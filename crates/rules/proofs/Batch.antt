@@ -35,9 +35,9 @@ place_in fine = 0
 place_in (fault n i) = i
 
 -- start with a block of the right size tells the table's verdict
-start-told : (t b : List ℕ) → length b ≡ 520 → ((start_on t b).number ≡ number_in (check t)) × ((start_on t b).place ≡ place_in (check t))
+start-told : (t b : List ℕ) → length b ≡ 776 → ((start_on t b).number ≡ number_in (check t)) × ((start_on t b).place ≡ place_in (check t))
 unfolding start_on
-start-told t b h = rw (eq-eqb (length b) 520 h) (go (check t))
+start-told t b h = rw (eq-eqb (length b) 776 h) (go (check t))
   where
     go : (v : Verdict) → ((start_with (v else fine) b).number ≡ number_in v) × ((start_with (v else fine) b).place ≡ place_in v)
     go fine = (refl, refl)
@@ -45,7 +45,7 @@ start-told t b h = rw (eq-eqb (length b) 520 h) (go (check t))
 
 pub outcome-is : (t : List ℕ) → outcome_bytes t ≡ bytes4 (number_in (check t)) ++ bytes4 (place_in (check t))
 unfolding outcome_bytes
-outcome-is t = let h = start-told t (replicate 520 0) refl in ap₂ (λ (n i : ℕ). bytes4 n ++ bytes4 i) h.0 h.1
+outcome-is t = let h = start-told t (replicate 776 0) refl in ap₂ (λ (n i : ℕ). bytes4 n ++ bytes4 i) h.0 h.1
 
 pub outcome-length : (t : List ℕ) → length (outcome_bytes t) ≡ 8
 outcome-length t = ap length (outcome-is t)

@@ -164,7 +164,7 @@ demand t b bt bb gs = go (open_on t b) refl
         subst (λ (x : List ℕ). AllRun r c t x gs) (sym o.block) (all_run t r o.within o.passes o.recipe c o.fit gs)
 
 -- any chain of calls that are each as promised has it
-chain-results : (t b : List ℕ) (ms : List Made) → Chained t b ms → map (λ m. m.result) ms ≡ outcomes t b (map (λ m. m.given) ms)
+pub chain-results : (t b : List ℕ) (ms : List Made) → Chained t b ms → map (λ m. m.result) ms ≡ outcomes t b (map (λ m. m.given) ms)
 unfolding outcomes
 chain-results t b [] h = refl
 chain-results t b (m ∷ ms) h =

@@ -8,7 +8,7 @@ use lib.ListN.{length, get_or}
 use Rattle.rules.specs.Values.{in_range}
 use Rattle.rules.specs.Recipe.{Recipe}
 use Rattle.rules.specs.Places.{is_place}
-use Rattle.rules.specs.State.{Store, Task, State, live}
+use Rattle.rules.specs.State.{Task, Store, live, State, spawner_fits}
 use Rattle.rules.specs.Steps.{recipes}
 use Rattle.rules.specs.Fairness.{Every, Valid}
 
@@ -24,6 +24,8 @@ pub record TaskFit (r : Recipe) (s : Store) (t : Task ℕ) : Type 0 where
   pub placed : is_place r t.place ≡ true
   pub place-fits : t.place < 65536
   pub parameter-fits : in_range t.parameter ≡ true
+  pub spawner-fits : spawner_fits t.number t.history.spawner ≡ true
+  pub times-fit : t.history.taken_up < 4294967296
 
 pub record Fit (r : Recipe) (c : State) : Type 0 where
   pub store-fits : StoreFit c.store

@@ -16,7 +16,7 @@ use Rattle.rules.specs.State.{Store, Task, State}
 use Rattle.rules.specs.Log.{Event, spawned, taken, gave, waits, turned, ended, valve}
 use Rattle.rules.specs.Scheduler.{Readiness, ready, waits_for, at_guard, on, Halt, Act, halts, does, Next, finish, jam, bar, goes, readiness, any_go, try_of, jam_or, next_act, next, log_of}
 use Rattle.rules.specs.Values.{truth}
-use Rattle.rules.specs.Steps.{limits, valve_of, env_of, go_to, moves, spawn_at, act_at, recipes}
+use Rattle.rules.specs.Steps.{limits, valve_of, counting, env_of, go_to, moves, spawn_at, act_at, recipes}
 use Rattle.rules.specs.Moments.{Call, Moment, trace}
 use Rattle.rules.specs.Fairness.{records}
 use Rattle.rules.specs.Demand.{given_out, times, NeverTwice}
@@ -53,7 +53,7 @@ module _ (r : Recipe) where
   ActGives i (halts k) = Unit {0}
   ActGives i (does s new y x) = Gives i s.issued x
 
-  spawn_gives : (o : Option Halt) (s : Store) (t : Task ℕ) (n p : ℕ) (z : ℤ) (k : ℕ) → ActGives s.issued (spawn_at o s t n p z k)
+  spawn_gives : (o : Option Halt) (s : Store) (t : Task ℕ) (n p : ℕ) (z : ℤ) (k : ℕ) → ActGives s.issued (spawn_at counting o s t n p z k)
   spawn_gives (some l) s t n p z k = tt
   spawn_gives none s t n p z k =
       let i = suc s.issued in
@@ -64,7 +64,7 @@ module _ (r : Recipe) where
         within = λ m l. omega (arith, is-other m i (omega arith));
       }
 
-  act_gives : (p : Point ℕ) (s : Store) (q : List (Task ℕ)) (t : Task ℕ) → ActGives s.issued (act_at (start r) limits p s q t)
+  act_gives : (p : Point ℕ) (s : Store) (q : List (Task ℕ)) (t : Task ℕ) → ActGives s.issued (act_at counting (start r) limits p s q t)
   act_gives nowhere s q t = quiet s.issued _ (λ n. refl)
   act_gives stop s q t = quiet s.issued _ (λ n. refl)
   act_gives (skips k) s q t = quiet s.issued _ (λ n. refl)
@@ -73,7 +73,7 @@ module _ (r : Recipe) where
   act_gives (tests e k l) s q t =
       needing_all (ActGives s.issued) (value (env_of s t) e) (λ z. does s [] (on (go_to t (cond (truth z) k l))) none) tt (λ z. quiet s.issued _ (λ n. refl))
   act_gives (spawns v p e k) s q t =
-      needing_all (ActGives s.issued) (value (env_of s t) e) (λ z. spawn_at (limits (length q) s.issued) s t v (start r p) z k) tt (λ z. spawn_gives (limits (length q) s.issued) s t v (start r p) z k)
+      needing_all (ActGives s.issued) (value (env_of s t) e) (λ z. spawn_at counting (limits (length q) s.issued) s t v (start r p) z k) tt (λ z. spawn_gives (limits (length q) s.issued) s t v (start r p) z k)
   act_gives (suspends k) s q t = quiet s.issued _ (λ n. refl)
   act_gives (awaits v k) s q t = quiet s.issued _ (λ n. refl)
   act_gives (guards e k) s q t = quiet s.issued _ (λ n. refl)
@@ -98,7 +98,7 @@ module _ (r : Recipe) where
   next_gives : (s : Store) (a : Option (Task ℕ)) (q : List (Task ℕ)) → NextGives s.issued (next (recipes r) (record { store = s; active = a; queue = q }))
   next_gives s none [] = tt
   next_gives s none (t ∷ q) = let c = idle_c (recipes r) s (t ∷ q) in try_gives (readiness (recipes r) c t) (any_go (recipes r) c (t ∷ q)) s t q
-  next_gives s (some t) q = done_gives s.issued q (act_at (start r) limits (at r t.place) s q t) (act_gives (at r t.place) s q t)
+  next_gives s (some t) q = done_gives s.issued q (act_at counting (start r) limits (at r t.place) s q t) (act_gives (at r t.place) s q t)
 
   step_gives : (c c' : State) (x : Option Event) → next (recipes r) c ≡ goes x c' → Gives c.store.issued c'.store.issued x
   step_gives c c' x e = subst (NextGives c.store.issued) e (next_gives c.store c.active c.queue)

@@ -22,3 +22,4 @@ pub mod Why
 pub mod Batch
 pub mod Says
 pub mod Witness
+pub mod Histories

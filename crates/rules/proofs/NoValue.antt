@@ -18,10 +18,10 @@ use Rattle.rules.specs.Recipe.{Expr, constant, variable, two, one, Recipe, Env, 
 use Rattle.rules.specs.Table.{kind_of, inner, expr_of}
 use Rattle.rules.specs.Places.{Point, nowhere, stop, skips, assigns, tests, spawns, suspends, awaits, guards, at, start}
 use Rattle.rules.specs.Standing.{point_at}
-use Rattle.rules.specs.State.{Store, Task, State}
+use Rattle.rules.specs.State.{Kept, Task, Store, State}
 use Rattle.rules.specs.Log.{Event}
 use Rattle.rules.specs.Scheduler.{Rules, Config, on, Halt, novalue, Act, halts, does, bar, next_act, next, paused, halted, run, end}
-use Rattle.rules.specs.Steps.{Limits, limits, valve_of, env_of, go_to, moves, needing, spawn_at, act_at, recipes}
+use Rattle.rules.specs.Steps.{Limits, limits, valve_of, Keeping, counting, env_of, go_to, moves, needing, spawn_at, act_at, recipes}
 use Rattle.rules.specs.NoValue.{Lacks, by_zero, of_first, of_second, of_only, needs, Lacking, NoValue}
 use Rattle.rules.proofs.Standing.{choose}
 use Rattle.rules.proofs.Scheduling.Bound.{idle_no_bar}
@@ -113,7 +113,7 @@ needs-kind p i k low high = needs_point p i k ∙ rw (le-leb 3 (kind_of p) low, 
 -- ---- what bars the active task's step
 
 -- what holds of a step that a missing value halts, and of what is done with any value, holds of a step that needs one
-pub needing_all : {A : Type 0} (P : Act Store (Task A) Event → Type 0) (o : Option ℤ) (f : ℤ → Act Store (Task A) Event) → P (halts novalue) → ((z : ℤ) → P (f z)) → P (needing o f)
+pub needing_all : {A H : Type 0} (P : Act Store (Kept A H) Event → Type 0) (o : Option ℤ) (f : ℤ → Act Store (Kept A H) Event) → P (halts novalue) → ((z : ℤ) → P (f z)) → P (needing o f)
 needing_all P none f h g = h
 needing_all P (some z) f h g = g z
 
@@ -131,11 +131,11 @@ module _ (r : Recipe) (s : Store) (q : List (Task ℕ)) (u : Task ℕ) where
       go none v h = let z : novalue ≡ k = cc in subst (Why p) z (lacks e n v)
       go (some z) v h = g z v h
 
-  spawn-halts : (o : Option Halt) (n p : ℕ) (z : ℤ) (l : ℕ) (k : Halt) → spawn_at o s u n p z l ≡ halts k → o ≡ some k
+  spawn-halts : (o : Option Halt) (n p : ℕ) (z : ℤ) (l : ℕ) (k : Halt) → spawn_at counting o s u n p z l ≡ halts k → o ≡ some k
   spawn-halts (some j) n p z l k e = let y : j ≡ k = cc in ap some y
   spawn-halts none n p z l k e = absurd (let z : ◌≡◌ {A = ℕ} 0 1 = cc in omega arith)
 
-  pub halts-why : (p : Point ℕ) (k : Halt) → act_at (start r) limits p s q u ≡ halts k → Why p k
+  pub halts-why : (p : Point ℕ) (k : Halt) → act_at counting (start r) limits p s q u ≡ halts k → Why p k
   halts-why nowhere k e = absurd (let z : ◌≡◌ {A = ℕ} 0 1 = cc in omega arith)
   halts-why stop k e = absurd (let z : ◌≡◌ {A = ℕ} 0 1 = cc in omega arith)
   halts-why (skips l) k e = absurd (let z : ◌≡◌ {A = ℕ} 0 1 = cc in omega arith)
@@ -146,24 +146,24 @@ module _ (r : Recipe) (s : Store) (q : List (Task ℕ)) (u : Task ℕ) where
       needing-why (tests x l m) k x (λ z. does s [] (on (go_to u (cond (truth z) l m))) none) refl
       (λ z v h. absurd (let z : ◌≡◌ {A = ℕ} 0 1 = cc in omega arith)) e
   halts-why (spawns n p x l) k e =
-      needing-why (spawns n p x l) k x (λ z. spawn_at (limits (length q) s.issued) s u n (start r p) z l) refl
+      needing-why (spawns n p x l) k x (λ z. spawn_at counting (limits (length q) s.issued) s u n (start r p) z l) refl
       (λ z v h. limited n p x l z refl v (spawn-halts (limits (length q) s.issued) n (start r p) z l k h)) e
   halts-why (suspends l) k e = absurd (let z : ◌≡◌ {A = ℕ} 0 1 = cc in omega arith)
   halts-why (awaits n l) k e = absurd (let z : ◌≡◌ {A = ℕ} 0 1 = cc in omega arith)
   halts-why (guards x l) k e = absurd (let z : ◌≡◌ {A = ℕ} 0 1 = cc in omega arith)
 
 -- an expression that is needed and has no value halts the step, whatever the places
-pub lacking-halts : {A : Type 0} (begin : ℕ → A) (full : Limits) (p : Point A) (s : Store) (q : List (Task A)) (u : Task A) (e : Expr)
-    → needs p ≡ some e → value (env_of s u) e ≡ none → act_at begin full p s q u ≡ halts novalue
-lacking-halts begin full nowhere s q u e h v = absurd (let z : ◌≡◌ {A = ℕ} 0 1 = cc in omega arith)
-lacking-halts begin full stop s q u e h v = absurd (let z : ◌≡◌ {A = ℕ} 0 1 = cc in omega arith)
-lacking-halts begin full (skips l) s q u e h v = absurd (let z : ◌≡◌ {A = ℕ} 0 1 = cc in omega arith)
-lacking-halts begin full (assigns n x l) s q u e h v = let z : x ≡ e = cc in rw (z, v) refl
-lacking-halts begin full (tests x l m) s q u e h v = let z : x ≡ e = cc in rw (z, v) refl
-lacking-halts begin full (spawns n p x l) s q u e h v = let z : x ≡ e = cc in rw (z, v) refl
-lacking-halts begin full (suspends l) s q u e h v = absurd (let z : ◌≡◌ {A = ℕ} 0 1 = cc in omega arith)
-lacking-halts begin full (awaits n l) s q u e h v = absurd (let z : ◌≡◌ {A = ℕ} 0 1 = cc in omega arith)
-lacking-halts begin full (guards x l) s q u e h v = absurd (let z : ◌≡◌ {A = ℕ} 0 1 = cc in omega arith)
+pub lacking-halts : {A H : Type 0} (keep : Keeping H) (begin : ℕ → A) (full : Limits) (p : Point A) (s : Store) (q : List (Kept A H)) (u : Kept A H) (e : Expr)
+    → needs p ≡ some e → value (env_of s u) e ≡ none → act_at keep begin full p s q u ≡ halts novalue
+lacking-halts keep begin full nowhere s q u e h v = absurd (let z : ◌≡◌ {A = ℕ} 0 1 = cc in omega arith)
+lacking-halts keep begin full stop s q u e h v = absurd (let z : ◌≡◌ {A = ℕ} 0 1 = cc in omega arith)
+lacking-halts keep begin full (skips l) s q u e h v = absurd (let z : ◌≡◌ {A = ℕ} 0 1 = cc in omega arith)
+lacking-halts keep begin full (assigns n x l) s q u e h v = let z : x ≡ e = cc in rw (z, v) refl
+lacking-halts keep begin full (tests x l m) s q u e h v = let z : x ≡ e = cc in rw (z, v) refl
+lacking-halts keep begin full (spawns n p x l) s q u e h v = let z : x ≡ e = cc in rw (z, v) refl
+lacking-halts keep begin full (suspends l) s q u e h v = absurd (let z : ◌≡◌ {A = ℕ} 0 1 = cc in omega arith)
+lacking-halts keep begin full (awaits n l) s q u e h v = absurd (let z : ◌≡◌ {A = ℕ} 0 1 = cc in omega arith)
+lacking-halts keep begin full (guards x l) s q u e h v = absurd (let z : ◌≡◌ {A = ℕ} 0 1 = cc in omega arith)
 
 -- no limit is a missing value
 pub no_limit : (queued issued : ℕ) → ¬ (limits queued issued ≡ some novalue)
@@ -189,7 +189,7 @@ module _ (r : Recipe) where
   pub bars : (s : Store) (a : Option (Task ℕ)) (q : List (Task ℕ)) (k : Halt) → next (recipes r) (record { store = s; active = a; queue = q }) ≡ bar k → Barred (record { store = s; active = a; queue = q }) k
   bars s none [] k e = absurd (let z : ◌≡◌ {A = ℕ} 0 1 = cc in omega arith)
   bars s none (u ∷ q) k e = absurd (idle_no_bar (recipes r) s u q k e)
-  bars s (some u) q k e = record { task = u; acts = refl; why = halts-why r s q u (at r u.place) k (act-bars q (act_at (start r) limits (at r u.place) s q u) k e) }
+  bars s (some u) q k e = record { task = u; acts = refl; why = halts-why r s q u (at r u.place) k (act-bars q (act_at counting (start r) limits (at r u.place) s q u) k e) }
 
   lacking : (c : State) → next (recipes r) c ≡ bar novalue → Lacking r c
   lacking c h = go (bars c.store c.active c.queue novalue h)
@@ -203,7 +203,7 @@ module _ (r : Recipe) where
 
   barred : (c : State) → Lacking r c → next (recipes r) c ≡ bar novalue
   barred c x =
-      rw x.acts (ap (next_act (recipes r) c.queue) (lacking-halts (start r) limits (at r x.task.place) c.store c.queue x.task x.expr x.needed (lacks_none (env_of c.store x.task) x.lacks)))
+      rw x.acts (ap (next_act (recipes r) c.queue) (lacking-halts counting (start r) limits (at r x.task.place) c.store c.queue x.task x.expr x.needed (lacks_none (env_of c.store x.task) x.lacks)))
 
   pub no_value_holds : (c : State) → NoValue r c
   no_value_holds c = record {

@@ -19,7 +19,7 @@ use Rattle.rules.specs.Places.{Point, nowhere, stop, skips, assigns, tests, spaw
 use Rattle.rules.specs.Standing.{next_of, point_at}
 use Rattle.rules.specs.State.{Store, Task, State, live, check_block, read_block}
 use Rattle.rules.specs.Scheduler.{Halt, novalue, halts, bar, next_act, next, Ending, finished, paused, stuck, logfull, halted, number_of, run, ending, last}
-use Rattle.rules.specs.Steps.{limits, env_of, needing, spawn_at, act_at, recipes}
+use Rattle.rules.specs.Steps.{limits, counting, env_of, needing, spawn_at, act_at, recipes}
 use Rattle.rules.specs.Run.{start_with, start_on, place_of, outcome, room_of, Opened, opens, open_with, open_on, run_with, run_on}
 use Rattle.rules.specs.Run as R
 use Rattle.rules.specs.Demand.{Bytes}
@@ -77,7 +77,7 @@ needed-kind k p e h = go (leb 3 k) (leb k 6) refl refl h
 
 -- a limit bars a spawn whose argument has a value
 limit_halts : (r : Recipe) (p : Point ℕ) (s : Store) (q : List (Task ℕ)) (u : Task ℕ) (k : Halt) → is_spawn p ≡ true → ((e : Expr) → needs p ≡ some e → ¬ (value (env_of s u) e ≡ none))
-    → limits (length q) s.issued ≡ some k → act_at (start r) limits p s q u ≡ halts k
+    → limits (length q) s.issued ≡ some k → act_at counting (start r) limits p s q u ≡ halts k
 limit_halts r nowhere s q u k e n h = absurd (false≢true e)
 limit_halts r stop s q u k e n h = absurd (false≢true e)
 limit_halts r (skips l) s q u k e n h = absurd (false≢true e)
@@ -88,7 +88,7 @@ limit_halts r (awaits v l) s q u k e n h = absurd (false≢true e)
 limit_halts r (guards x l) s q u k e n h = absurd (false≢true e)
 limit_halts r (spawns v p x l) s q u k e n h = rw h (go (value (env_of s u) x) (n x refl))
   where
-    go : (o : Option ℤ) → ¬ (o ≡ none) → needing o (λ z. spawn_at (some k) s u v (start r p) z l) ≡ halts k
+    go : (o : Option ℤ) → ¬ (o ≡ none) → needing o (λ z. spawn_at counting (some k) s u v (start r p) z l) ≡ halts k
     go none g = absurd (g refl)
     go (some z) g = refl
 
@@ -318,22 +318,22 @@ run-says t b bt bb budget l =
 
 pub start-says : (t b : List ℕ) → StartSays t b (start_on t b)
 unfolding start_on
-start-says t b = go (check t) (eqb (length b) 520) (check-number t) refl refl
+start-says t b = go (check t) (eqb (length b) 776) (check-number t) refl refl
   where
     no_number : (n m : ℕ) → of_table n ≡ true → of_table m ≡ false → ¬ (n ≡ m)
     no_number n m h g e = true≢false (sym h ∙ ap of_table e ∙ g)
 
-    go : (v : Verdict) (x : Bool) → Numbers of_table v → check t ≡ v → eqb (length b) 520 ≡ x → StartSays t b (start_with (v else cond x fine (fault 21 0)) b)
+    go : (v : Verdict) (x : Bool) → Numbers of_table v → check t ≡ v → eqb (length b) 776 ≡ x → StartSays t b (start_with (v else cond x fine (fault 21 0)) b)
     go fine true h p e =
         record {
           refused = λ n i. (λ z. absurd (let y = sym p ∙ z in let o : ◌≡◌ {A = ℕ} 0 1 = cc in omega arith), λ z. absurd (no_number n 0 z.0 refl (sym z.1)));
-          short = (λ z. absurd (omega arith), λ z. absurd (z.1 (eqb-true (length b) 520 e)));
-          accepted = (λ z. (p, eqb-true (length b) 520 e), λ z. refl);
+          short = (λ z. absurd (omega arith), λ z. absurd (z.1 (eqb-true (length b) 776 e)));
+          accepted = (λ z. (p, eqb-true (length b) 776 e), λ z. refl);
           no_place = λ z. refl;
           fresh_left = λ z. ((p, fresh-fits (is_place (recipe_of t)) (some_recipe t p)), fresh-read);
         }
     go fine false h p e =
-        let other : ¬ (length b ≡ 520) = λ z. false≢true (sym e ∙ eq-eqb (length b) 520 z) in
+        let other : ¬ (length b ≡ 776) = λ z. false≢true (sym e ∙ eq-eqb (length b) 776 z) in
         record {
           refused = λ n i. (λ z. absurd (let y = sym p ∙ z in let o : ◌≡◌ {A = ℕ} 0 1 = cc in omega arith), λ z. absurd (no_number n 21 z.0 refl (sym z.1)));
           short = (λ z. (p, other), λ z. refl);

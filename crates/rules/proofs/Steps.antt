@@ -9,14 +9,14 @@ use native.Mathlib.Omega.{arith}
 use lib.Dec.{eqb, leb}
 use lib.IntN.{ℤ, pos}
 use lib.ListN.{length, length-append}
-use borrow.Author.Tests.{ne_eqb, leb-false}
+use borrow.Author.Tests.{ne_eqb, le-leb, leb-false, lt-ltb}
 use Rattle.rules.specs.Values.{in_range, truth}
 use Rattle.rules.specs.Recipe.{Expr, Recipe, NamedE, Within, Env, write, value}
 use Rattle.rules.specs.Places.{Point, nowhere, stop, skips, assigns, tests, spawns, suspends, awaits, guards, at, is_place, start}
-use Rattle.rules.specs.State.{Store, Task, State}
+use Rattle.rules.specs.State.{Kept, Task, Store, State, spawned_by, spawner_fits}
 use Rattle.rules.specs.Log.{Event}
 use Rattle.rules.specs.Scheduler.{Rules, Readiness, ready, waits_for, at_guard, Stay, on, back, over, Halt, Act, halts, does, is, Next, finish, jam, bar, goes, readiness, any_go, try_of, jam_or, next_act, stay, next, run, last}
-use Rattle.rules.specs.Steps.{Limits, limits, valve_of, env_of, go_to, go_with, past_at, moves, needing, spawn_at, act_at, machine, recipes}
+use Rattle.rules.specs.Steps.{Limits, limits, valve_of, Keeping, counting, env_of, go_to, go_with, past_at, moves, needing, counted, spawn_at, act_at, machine, recipes}
 use Rattle.rules.specs.Moments.{Call}
 use Rattle.rules.specs.Fairness.{Every, Valid, Allowed, Demand3}
 use Rattle.rules.proofs.Scheduling.Lawful.{Keeps, Sound, SoundAct, Lawful}
@@ -38,11 +38,11 @@ is_le false = omega arith
 pub is-other : (a b : ℕ) → ¬ (a ≡ b) → is (eqb a b) ≡ 0
 is-other a b n = ap is (ne_eqb a b n)
 
-module _ {A : Type 0} (see : A → Point A) (begin : ℕ → A) (full : Limits) where
+module _ {A H : Type 0} (keep : Keeping H) (see : A → Point A) (begin : ℕ → A) (full : Limits) where
   abbrev R : Rules
-  R = machine see begin full
+  R = machine keep see begin full
 
-  past_num : (p : Point A) (t : Task A) → (past_at p t).number ≡ t.number
+  past_num : (p : Point A) (t : Kept A H) → (past_at p t).number ≡ t.number
   past_num nowhere t = refl
   past_num stop t = refl
   past_num (skips k) t = refl
@@ -54,16 +54,16 @@ module _ {A : Type 0} (see : A → Point A) (begin : ℕ → A) (full : Limits) 
   past_num (guards e k) t = refl
 
   -- a step that spawns nothing
-  quiet : (s s' : Store) (t : Task A) (y : Stay (Task A)) → s.issued ≡ s'.issued → Keeps R t y → Sound R s t s' [] y
+  quiet : (s s' : Store) (t : Kept A H) (y : Stay (Kept A H)) → s.issued ≡ s'.issued → Keeps R t y → Sound R s t s' [] y
   quiet s s' t y e k = record { keeps = k; grows = omega arith; once = λ i. omega arith; fresh = λ i h. refl; within = λ i h. refl }
 
-  sound_spawn : (o : Option Halt) (s : Store) (t : Task A) (n : ℕ) (p : A) (z : ℤ) (k : A) → SoundAct R s t (spawn_at o s t n p z k)
+  sound_spawn : (o : Option Halt) (s : Store) (t : Kept A H) (n : ℕ) (p : A) (z : ℤ) (k : A) → SoundAct R s t (spawn_at keep o s t n p z k)
   sound_spawn (some l) s t n p z k = tt
   sound_spawn none s t n p z k =
       let i' = suc s.issued in
       record { keeps = refl; grows = omega arith; once = λ i. omega (arith, is_le (eqb i i')); fresh = λ i h. omega (arith, is-other i i' (omega arith)); within = λ i h. omega (arith, is-other i i' (omega arith)) }
 
-  sound_at : (p : Point A) (s : Store) (q : List (Task A)) (t : Task A) → SoundAct R s t (act_at begin full p s q t)
+  sound_at : (p : Point A) (s : Store) (q : List (Kept A H)) (t : Kept A H) → SoundAct R s t (act_at keep begin full p s q t)
   sound_at nowhere s q t = quiet s s t over refl tt
   sound_at stop s q t = quiet s s t over refl tt
   sound_at (skips k) s q t = quiet s s t (on (go_to t k)) refl refl
@@ -73,17 +73,17 @@ module _ {A : Type 0} (see : A → Point A) (begin : ℕ → A) (full : Limits) 
   sound_at (tests e k l) s q t =
       needing_all (SoundAct R s t) (value (env_of s t) e) (λ z. does s [] (on (go_to t (cond (truth z) k l))) none) tt (λ z. quiet s s t (on (go_to t (cond (truth z) k l))) refl refl)
   sound_at (spawns n p e k) s q t =
-      needing_all (SoundAct R s t) (value (env_of s t) e) (λ z. spawn_at (full (length q) s.issued) s t n (begin p) z k) tt (λ z. sound_spawn (full (length q) s.issued) s t n (begin p) z k)
+      needing_all (SoundAct R s t) (value (env_of s t) e) (λ z. spawn_at keep (full (length q) s.issued) s t n (begin p) z k) tt (λ z. sound_spawn (full (length q) s.issued) s t n (begin p) z k)
   sound_at (suspends k) s q t = quiet s s t (back (go_to t k)) refl refl
   sound_at (awaits n k) s q t = quiet s s t (back t) refl refl
   sound_at (guards e k) s q t = quiet s s t (back t) refl refl
 
-  pub lawful : Lawful (machine see begin full)
+  pub lawful : Lawful (machine keep see begin full)
   lawful = record { up-num = λ t. past_num (see t.place) t; acts = λ s q t. sound_at (see t.place) s q t }
 
 -- demand 3, for tasks at the places of a table
 pub demand_of_recipes : (r : Recipe) (c : State) (cs : List Call) → Allowed (recipes r) c cs → Demand3 (recipes r) c cs
-demand_of_recipes r = demand_3 (recipes r) (lawful (at r) (start r) limits)
+demand_of_recipes r = demand_3 (recipes r) (lawful counting (at r) (start r) limits)
 
 -- a spawn that no limit stops has room for a task and a number
 pub room : (queued issued : ℕ) → limits queued issued ≡ none → (queued < 31) × (issued < 65535)
@@ -100,14 +100,14 @@ module _ (r : Recipe) (w : Within r) where
   rules = recipes r
 
   L : Lawful rules
-  L = lawful (at r) (start r) limits
+  L = lawful counting (at r) (start r) limits
 
   place-small : (k : ℕ) → is_place r k ≡ true → k < 65536
   place-small k h = omega (arith, place-bound r k h, w.few)
 
   -- a task that goes on
   moved : {s s' : Store} {t : Task ℕ} {z : ℤ} {k : ℕ} → s.issued ≤ s'.issued → TaskFit r s t → in_range z ≡ true → is_place r k ≡ true → TaskFit r s' (go_with t z k)
-  moved {k = k} l f h g = record { from_one = f.from_one; was_issued = omega arith; placed = g; place-fits = place-small k g; parameter-fits = h }
+  moved {k = k} l f h g = record { from_one = f.from_one; was_issued = omega arith; placed = g; place-fits = place-small k g; parameter-fits = h; spawner-fits = f.spawner-fits; times-fit = f.times-fit }
 
   kept : {s s' : Store} {t : Task ℕ} → s.issued ≤ s'.issued → TaskFit r s t → TaskFit r s' t
   kept l f = moved l f f.parameter-fits f.placed
@@ -122,6 +122,28 @@ module _ (r : Recipe) (w : Within r) where
   past_fits (suspends k) h f = f
   past_fits (awaits n k) h f = moved (omega arith) f f.parameter-fits h.1
   past_fits (guards e k) h f = moved (omega arith) f f.parameter-fits h.1
+
+  -- a task that is taken up
+  counted_fits : {s : Store} {t : Task ℕ} → TaskFit r s t → TaskFit r s (counted counting t)
+  counted_fits f = record {
+    from_one = f.from_one;
+    was_issued = f.was_issued;
+    placed = f.placed;
+    place-fits = f.place-fits;
+    parameter-fits = f.parameter-fits;
+    spawner-fits = f.spawner-fits;
+    times-fit = omega arith;
+  }
+
+  -- a task's number as that of the spawner of the next one
+  spawns-next : {s : Store} {t : Task ℕ} → TaskFit r s t → spawner_fits (suc s.issued) t.number ≡ true
+  unfolding spawner_fits
+  spawns-next {s} {t} f =
+      rw (
+        ne_eqb (suc s.issued) 1 (omega (arith, f.from_one, f.was_issued)),
+        le-leb 1 t.number f.from_one,
+        lt-ltb t.number (suc s.issued) (omega (arith, f.was_issued)),
+      )
 
   -- what the acting task leaves
   abbrev StayFit : Store → Stay (Task ℕ) → Type 0
@@ -167,16 +189,16 @@ module _ (r : Recipe) (w : Within r) where
       stay-fits = moved l f h.parameter-fits j;
     }
 
-    spawn-fits : (o : Option Halt) (n p : ℕ) (z : ℤ) (k : ℕ) → limits (length q) s.issued ≡ o → is_place r p ≡ true → in_range z ≡ true → is_place r k ≡ true → ActFit q (spawn_at o s t n p z k)
+    spawn-fits : (o : Option Halt) (n p : ℕ) (z : ℤ) (k : ℕ) → limits (length q) s.issued ≡ o → is_place r p ≡ true → in_range z ≡ true → is_place r k ≡ true → ActFit q (spawn_at counting o s t n p z k)
     spawn-fits (some l) n p z k e h i j = tt
     spawn-fits none n p z k e h i j =
         let (a, b) = room (length q) s.issued e in
-        let new : Task ℕ = record { number = suc s.issued; place = p; parameter = z } in
+        let new : Task ℕ = record { number = suc s.issued; place = p; parameter = z; history = spawned_by t.number } in
         moves-fits (suc s.issued) (write (env_of s t) n (pos (suc s.issued))) k (new ∷ []) (omega arith) (omega arith)
         (written n (pos (suc s.issued)) (mag_range (pos (suc s.issued)) (omega arith))) j (omega arith)
-        (record { from_one = omega arith; was_issued = omega arith; placed = h; place-fits = place-small p h; parameter-fits = i }, tt)
+        (record { from_one = omega arith; was_issued = omega arith; placed = h; place-fits = place-small p h; parameter-fits = i; spawner-fits = spawns-next f; times-fit = omega arith }, tt)
 
-    act-fits : (p : Point ℕ) → Leads r p → ActFit q (act_at (start r) limits p s q t)
+    act-fits : (p : Point ℕ) → Leads r p → ActFit q (act_at counting (start r) limits p s q t)
     act-fits nowhere h = quiet_fits over tt
     act-fits stop h = quiet_fits over tt
     act-fits (skips k) h = quiet_fits (on (go_to t k)) (went k h)
@@ -187,7 +209,7 @@ module _ (r : Recipe) (w : Within r) where
         needing-fits e h.0 (λ z. does s [] (on (go_to t (cond (truth z) k l))) none)
         (λ z i. quiet_fits (on (go_to t (cond (truth z) k l))) (went _ (either (λ (k : ℕ). is_place r k ≡ true) (truth z) h.1 h.2)))
     act-fits (spawns n p e k) h =
-        needing-fits e h.3 (λ z. spawn_at (limits (length q) s.issued) s t n (start r p) z k)
+        needing-fits e h.3 (λ z. spawn_at counting (limits (length q) s.issued) s t n (start r p) z k)
         (λ z i. spawn-fits (limits (length q) s.issued) n (start r p) z k refl (start-place r w p h.2) i h.4)
     act-fits (suspends k) h = quiet_fits (back (go_to t k)) (went k h)
     act-fits (awaits n k) h = quiet_fits (back t) f
@@ -215,7 +237,7 @@ module _ (r : Recipe) (w : Within r) where
   try_fits ready s t q f = record {
     store-fits = f.store-fits;
     few = f.few;
-    tasks_fit = (past_fits (at r t.place) (leads r w t.place) f.tasks_fit.0, f.tasks_fit.1);
+    tasks_fit = (counted_fits (past_fits (at r t.place) (leads r w t.place) f.tasks_fit.0), f.tasks_fit.1);
     valid = valid_took rules L s t q f.valid;
   }
   try_fits (waits_for z) s t q f = turn-fits s t q f

@@ -105,8 +105,8 @@ pub record RunSays (t b : List ℕ) (budget : ℕ) (l : List ℕ) (o : Outcome) 
 -- "Start gives a number and a place by the same rules: 0 and 0 when accepted, else 11–17 or 21 with its place"
 pub record StartSays (t b : List ℕ) (o : Started) : Type 0 where
   pub refused : (n i : ℕ) → (check t ≡ fault n i) ↔ ((of_table n ≡ true) × (o.number ≡ n) × (o.place ≡ i))
-  pub short : (o.number ≡ 21) ↔ ((check t ≡ fine) × (¬ (length b ≡ 520)))
-  pub accepted : (o.number ≡ 0) ↔ ((check t ≡ fine) × (length b ≡ 520))
+  pub short : (o.number ≡ 21) ↔ ((check t ≡ fine) × (¬ (length b ≡ 776)))
+  pub accepted : (o.number ≡ 0) ↔ ((check t ≡ fine) × (length b ≡ 776))
   pub no_place : check t ≡ fine → o.place ≡ 0
   -- "it ignores the block's old content": the block that it leaves is accepted, and says the fresh state
   pub fresh_left : o.number ≡ 0 → Accepted t o.block × (read_block o.block ≡ fresh)

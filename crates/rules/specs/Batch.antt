@@ -24,7 +24,7 @@ recipe_at b l i = take (length_at l i) (drop (total i l) b)
 
 -- "what start gives for that recipe alone with a block of the right size" (whatever the block holds: `BatchSays→each`)
 abbrev pub alone : (table : List ℕ) → Started
-alone t = start_on t (replicate 520 0)
+alone t = start_on t (replicate 776 0)
 
 -- "for each in turn one number, then its place, four bytes each"
 unfoldable pub outcome_bytes : (table : List ℕ) → List ℕ
@@ -63,10 +63,10 @@ pub record IsBatch (size : ℕ) (l : List ℕ) (space : ℕ) : Type 0 where
   pub adds_up : total (count l) l ≡ size
   pub room : space ≡ 8 * count l
 
--- the outcome in the eight bytes of recipe i: the number and the place that start gives for the table t, whatever the block of 520 bytes holds
+-- the outcome in the eight bytes of recipe i: the number and the place that start gives for the table t, whatever the block of 776 bytes holds
 pub record Tells (o : List ℕ) (i : ℕ) (t : List ℕ) : Type 0 where
-  pub number : (block : List ℕ) → length block ≡ 520 → word o (8 * i) ≡ (start_on t block).number
-  pub place : (block : List ℕ) → length block ≡ 520 → word o (8 * i + 4) ≡ (start_on t block).place
+  pub number : (block : List ℕ) → length block ≡ 776 → word o (8 * i) ≡ (start_on t block).number
+  pub place : (block : List ℕ) → length block ≡ 776 → word o (8 * i + 4) ≡ (start_on t block).place
   pub listed : (of_table (word o (8 * i)) || eqb (word o (8 * i)) 0) ≡ true
 
 -- parts one after another

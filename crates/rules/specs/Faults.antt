@@ -153,5 +153,5 @@ pub record EarliestDecides (t : List ℕ) : Type 0 where
 
 -- "22: first state record against the rules above, or a place that is none"; 21 and 23 name no record
 pub record EarliestState (place : ℕ → Bool) (b : List ℕ) : Type 0 where
-  pub a_record : (i : ℕ) → check_block place b ≡ fault 22 i → (i < 33) × ((j : ℕ) → j < i → record_fits place b j ≡ true) × (record_fits place b i ≡ false)
-  pub a_length : (i : ℕ) → check_block place b ≡ fault 21 i → (i ≡ 0) × (¬ (length b ≡ 520))
+  pub a_record : (i : ℕ) → check_block place b ≡ fault 22 i → (i < 65) × ((j : ℕ) → j < i → record_fits place b j ≡ true) × (record_fits place b i ≡ false)
+  pub a_length : (i : ℕ) → check_block place b ≡ fault 21 i → (i ≡ 0) × (¬ (length b ≡ 776))

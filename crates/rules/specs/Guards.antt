@@ -9,7 +9,7 @@ use Rattle.rules.specs.Places.{awaits, guards, at}
 use Rattle.rules.specs.State.{Task, State}
 use Rattle.rules.specs.Log.{waits, turned, taken}
 use Rattle.rules.specs.Scheduler.{is_live, any_go, goes, next}
-use Rattle.rules.specs.Steps.{is_done, env_of, go_to, recipes}
+use Rattle.rules.specs.Steps.{is_done, counting, env_of, go_to, counted, recipes}
 use Rattle.rules.specs.Fairness.{Every, Stuck}
 
 -- a queued task "waits for a number that is not done or for an untrue guard", in the state c of the recipe r
@@ -39,7 +39,7 @@ pub record Guards (r : Recipe) (c : State) : Type 0 where
   -- some task can go on
   pub passes : (t : Task ℕ) (q : List (Task ℕ)) (e : Expr) (k : ℕ) → c.active ≡ none → c.queue ≡ t ∷ q → at r t.place ≡ guards e k
       → is_true (value (env_of c.store t) e) ≡ true
-      → next (recipes r) c ≡ goes (some (taken t.number)) (record { store = c.store; active = some (go_to t k); queue = q })
+      → next (recipes r) c ≡ goes (some (taken t.number)) (record { store = c.store; active = some (counted counting (go_to t k)); queue = q })
   pub turns : (t : Task ℕ) (q : List (Task ℕ)) (e : Expr) (k : ℕ) → c.active ≡ none → c.queue ≡ t ∷ q → at r t.place ≡ guards e k
       → is_true (value (env_of c.store t) e) ≡ false → any_go (recipes r) c c.queue ≡ true
       → next (recipes r) c ≡ goes (some (turned t.number (pos 0))) (record { store = c.store; active = none; queue = q ++ (t ∷ []) })

@@ -22,5 +22,6 @@ pub mod Guards
 pub mod NoValue
 pub mod Why
 pub mod Batch
+pub mod Histories
 pub mod Witness
 pub mod Rest

@@ -99,4 +99,4 @@ text_on t b l = start_text t l (start_on t b)
 
 -- "and a log of 4,096 records": all that is printed for a table
 unfoldable pub printed : (table : List ℕ) → List ℕ
-printed t = text_on t (replicate 520 0) (replicate 32768 0)
+printed t = text_on t (replicate 776 0) (replicate 32768 0)

@@ -22,7 +22,7 @@ start_with (fault n i) b = record { number = n; place = i; block = b }
 
 unfoldable pub start_on : (table block : List ℕ) → Started
 start_on t b =
-    let size = cond (eqb (length b) 520) fine (fault 21 0) in
+    let size = cond (eqb (length b) 776) fine (fault 21 0) in
     start_with (check t else size) b
 
 -- "A run gives number, steps, log records and place (the faulty record; 0 where none is named)"; what it leaves in the block and the log.

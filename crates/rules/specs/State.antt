@@ -1,14 +1,24 @@
 -- Document 01, "The state": tasks, queue, variables and the highest number; the block that holds them.
 -- Assumes nothing.
-use Rattle.std.specs.Prelude.{ℕ, zero, suc, ◌+◌, ◌-◌, ◌*◌, Bool, true, not, ◌&&◌, cond, List, [], ◌∷◌, ◌++◌, eqb, leb, ℤ, pos, length, get_or, replicate}
+use Rattle.std.specs.Prelude.{ℕ, zero, suc, ◌+◌, ◌-◌, ◌*◌, ◌/◌, ◌%◌, Bool, true, not, ◌&&◌, cond, List, [], ◌∷◌, ◌++◌, eqb, leb, ltb, ℤ, pos, length, get_or, replicate}
 use Rattle.std.proofs.Math.Option.{Option, none, some}
 use Rattle.rules.specs.Fields.{half, word, signed, bits, bytes2, bytes4}
 use Rattle.rules.specs.Table.{Verdict, fine, fault, ◌else◌}
 
-pub record Task (A : Type 0) : Type 0 where
+-- Request 2.6 of document 02: "Service wants each task's starter and how often it was taken up."
+pub record History : Type 0 where
+  pub spawner : ℕ
+  pub taken_up : ℕ
+
+-- A task. (A is what a place is; H, what is kept of it beside what the steps need: document 002 keeps nothing.)
+pub record Kept (A H : Type 0) : Type 0 where
   pub number : ℕ
   pub place : A
   pub parameter : ℤ
+  pub history : H
+
+abbrev pub Task : Type 0 → Type 0
+Task A = Kept A History
 
 -- the highest task number issued, and the variables 0–63
 pub record Store : Type 0 where
@@ -33,11 +43,19 @@ live c = live_tasks c.active c.queue
 abbrev pub State : Type 0
 State = Configuration Store (Task ℕ)
 
--- "A fresh state has task 1 (main, parameter 0) active at place 1, highest number 1 and all variables 0."
+-- the largest number of times taken up: "unsigned, staying at the largest value"
+abbrev pub largest : ℕ
+largest = 4294967295
+
+-- the history of a task that was never taken up
+abbrev pub spawned_by : ℕ → History
+spawned_by n = record { spawner = n; taken_up = 0 }
+
+-- "A fresh state has task 1 (main, parameter 0) active at place 1, highest number 1 and all variables 0." Request 2.6: "0 for task 1"
 unfoldable pub fresh : State
 fresh = record {
   store = record { issued = 1; variables = replicate 64 (pos 0) };
-  active = some (record { number = 1; place = 1; parameter = pos 0 });
+  active = some (record { number = 1; place = 1; parameter = pos 0; history = spawned_by 0 });
   queue = [];
 }
 
@@ -65,7 +83,8 @@ unfoldable pub head_fits : List ℕ → Bool
 head_fits b = leb 1 (issued_in b) && leb (live_in b) 32 && leb (active_in b) (cond (eqb (live_in b) 0) 0 1) && eqb (word b 4) 0
 
 -- "Records 1–32: .. each has bytes 0–1 the task number (1 to the highest issued, all different; of two equal ones the later record is at
--- fault), bytes 2–3 its place, bytes 4–7 its parameter"
+-- fault), bytes 2–3 its place, bytes 4–7 its parameter". Request 2.6: "A task gets a second state record after its first": the records of the task that
+-- has k before it are 2k + 1 and 2k + 2.
 abbrev pub number_in : List ℕ → ℕ → ℕ
 number_in b i = half b (8 * i)
 
@@ -75,22 +94,39 @@ place_in b i = half b (8 * i + 2)
 abbrev pub parameter_in : List ℕ → ℕ → ℤ
 parameter_in b i = signed (word b (8 * i + 4))
 
--- none of the records 1 to k has the number n
+-- none of the first k tasks has the number n
 unfoldable pub unlike : List ℕ → (n k : ℕ) → Bool
 unlike b n zero = true
-unlike b n (suc k) = unlike b n k && not (eqb (number_in b (suc k)) n)
+unlike b n (suc k) = unlike b n k && not (eqb (number_in b (2 * k + 1)) n)
 
+-- the first record i of a task
 unfoldable pub task_fits : (ℕ → Bool) → List ℕ → ℕ → Bool
-task_fits place b i = leb 1 (number_in b i) && leb (number_in b i) (issued_in b) && unlike b (number_in b i) (i - 1) && place (place_in b i)
+task_fits place b i = leb 1 (number_in b i) && leb (number_in b i) (issued_in b) && unlike b (number_in b i) (i / 2) && place (place_in b i)
+
+-- "bytes 0–1 the spawner's number (0 for task 1, else from 1 to one below its own), bytes 2–3 zero, bytes 4–7 the times taken up, unsigned"
+abbrev pub spawner_in : List ℕ → ℕ → ℕ
+spawner_in b i = half b (8 * i)
+
+abbrev pub taken_up_in : List ℕ → ℕ → ℕ
+taken_up_in b i = word b (8 * i + 4)
+
+unfoldable pub spawner_fits : (number spawner : ℕ) → Bool
+spawner_fits n s = cond (eqb n 1) (eqb s 0) (leb 1 s && ltb s n)
+
+-- the second record i of a task, behind its first
+unfoldable pub history_fits : List ℕ → ℕ → Bool
+history_fits b i = spawner_fits (number_in b (i - 1)) (spawner_in b i) && eqb (half b (8 * i + 2)) 0
 
 -- "unused ones are all zero"
 unfoldable pub unused_fits : List ℕ → ℕ → Bool
 unused_fits b i = eqb (word b (8 * i)) 0 && eqb (word b (8 * i + 4)) 0
 
--- "as many records as there are live tasks"
+-- "as many records as there are live tasks", each with its second behind it
 unfoldable pub record_fits : (ℕ → Bool) → List ℕ → ℕ → Bool
 record_fits place b zero = head_fits b
-record_fits place b (suc i) = cond (leb (suc i) (live_in b)) (task_fits place b (suc i)) (unused_fits b (suc i))
+record_fits place b (suc i) =
+    let used = cond (eqb (i % 2) 0) (task_fits place b (suc i)) (history_fits b (suc i)) in
+    cond (leb (suc i) (2 * live_in b)) used (unused_fits b (suc i))
 
 -- "first state record against the rules above, or a place that is none": of the n records from i on
 unfoldable pub check_records : (ℕ → Bool) → List ℕ → (n i : ℕ) → Verdict
@@ -99,23 +135,27 @@ check_records place b (suc n) i =
     let rest = check_records place b n (i + 1) in
     cond (record_fits place b i) rest (fault 22 i)
 
--- 21, 22, 23 in this order. (Records 33–64 are "any content".)
+-- 21, 22, 23 in this order. (The variables' records are "any content".) Request 2.6: "The block grows to 97 records, 776 bytes".
 unfoldable pub check_block : (ℕ → Bool) → List ℕ → Verdict
 check_block place b =
     let numbers = cond (leb (live_in b) (issued_in b)) fine (fault 23 0) in
-    let all = check_records place b 33 0 else numbers in
-    cond (eqb (length b) 520) all (fault 21 0)
+    let all = check_records place b 65 0 else numbers in
+    cond (eqb (length b) 776) all (fault 21 0)
 
 -- What an accepted block says.
+abbrev pub history_in : List ℕ → ℕ → History
+history_in b i = record { spawner = spawner_in b i; taken_up = taken_up_in b i }
+
+-- (i: the task's first record)
 abbrev pub task_in : List ℕ → ℕ → Task ℕ
-task_in b i = record { number = number_in b i; place = place_in b i; parameter = parameter_in b i }
+task_in b i = record { number = number_in b i; place = place_in b i; parameter = parameter_in b i; history = history_in b (i + 1) }
 
 abbrev pub tasks_in : List ℕ → List (Task ℕ)
-tasks_in b = tab (live_in b) (λ i. task_in b (i + 1))
+tasks_in b = tab (live_in b) (λ k. task_in b (2 * k + 1))
 
--- "Records 33–64: variables 0–63, four bytes each, any content."
+-- "Records 33–64: variables 0–63, four bytes each, any content", behind 32 second records: records 65 to 96
 abbrev pub variables_in : List ℕ → List ℤ
-variables_in b = tab 64 (λ j. signed (word b (264 + 4 * j)))
+variables_in b = tab 64 (λ j. signed (word b (520 + 4 * j)))
 
 -- "the active task if any, then the queue from its front"
 abbrev pub state_of : Store → (active : ℕ) → List (Task ℕ) → State
@@ -134,12 +174,19 @@ is_active (some t) = 1
 unfoldable pub head_row : State → List ℕ
 head_row c = bytes2 c.store.issued ++ length (live c) ∷ is_active c.active ∷ 0 ∷ 0 ∷ 0 ∷ 0 ∷ []
 
-unfoldable pub task_row : Task ℕ → List ℕ
-task_row t = bytes2 t.number ++ bytes2 t.place ++ bytes4 (bits t.parameter)
+-- a task's first record and its second
+abbrev pub first_row : Task ℕ → List ℕ
+first_row t = bytes2 t.number ++ bytes2 t.place ++ bytes4 (bits t.parameter)
 
--- an unused record: all zero
+abbrev pub history_row : History → List ℕ
+history_row h = bytes2 h.spawner ++ bytes2 0 ++ bytes4 h.taken_up
+
+unfoldable pub task_row : Task ℕ → List ℕ
+task_row t = first_row t ++ history_row t.history
+
+-- unused records: all zero
 abbrev pub no_task : Task ℕ
-no_task = record { number = 0; place = 0; parameter = pos 0 }
+no_task = record { number = 0; place = 0; parameter = pos 0; history = spawned_by 0 }
 
 unfoldable pub write_block : State → List ℕ
 write_block c =

@@ -464,13 +464,20 @@ columns =
 
 -- ---- lent blocks
 
--- a task's record: number, place, parameter
+-- a task's first record: number, place, parameter; and its second: spawner, times taken up
+abbrev pub first : (number place : ℕ) → ℤ → List ℕ
+first n k z = bytes2 n ++ bytes2 k ++ bytes4 (bits z)
+
+abbrev pub kept : (number place : ℕ) → ℤ → (spawner taken_up : ℕ) → List ℕ
+kept n k z s u = first n k z ++ bytes2 s ++ 0 ∷ 0 ∷ bytes4 u
+
+-- spawned by the task whose number is one below (1 by none), and never taken up
 abbrev pub task : (number place : ℕ) → ℤ → List ℕ
-task n k z = bytes2 n ++ bytes2 k ++ bytes4 (bits z)
+task n k z = kept n k z (n - 1) 0
 
 -- a block with the rest of its bytes 0
 abbrev pub block_of : (issued live active : ℕ) → List ℕ → List ℕ
-block_of i n a ts = bytes2 i ++ n ∷ a ∷ 0 ∷ 0 ∷ 0 ∷ 0 ∷ ts ++ replicate (512 - length ts) 0
+block_of i n a ts = bytes2 i ++ n ∷ a ∷ 0 ∷ 0 ∷ 0 ∷ 0 ∷ ts ++ replicate (768 - length ts) 0
 
 -- a block with two live tasks, and with variables
 abbrev pub variables : List ℤ → List ℕ
@@ -478,7 +485,7 @@ variables [] = []
 variables (z ∷ zs) = bytes4 (bits z) ++ variables zs
 
 abbrev pub block_with : (issued active : ℕ) → (first second : List ℕ) → List ℤ → List ℕ
-block_with i a t u zs = bytes2 i ++ 2 ∷ a ∷ 0 ∷ 0 ∷ 0 ∷ 0 ∷ (t ++ u ++ replicate 240 0 ++ variables zs)
+block_with i a t u zs = bytes2 i ++ 2 ∷ a ∷ 0 ∷ 0 ∷ 0 ∷ 0 ∷ (t ++ u ++ replicate 480 0 ++ variables zs)
 
 -- valves 1 and 2 are set to the parameter and to variable 63
 abbrev pub read_back : List ℕ
@@ -506,45 +513,70 @@ spawn_none = procedure_of (row 6 8 3 (pos 0) ++ none9)
 abbrev pub blocks : List Row
 blocks =
     -- 21 and 22, the earliest state record: its head; a number that is 0, not issued or had by an earlier record; a place that is none; an unused record
-    from (take 519 (block_of 1 0 0 [])) (refused row_e 21 0)
+    from (take 775 (block_of 1 0 0 [])) (refused row_e 21 0)
+    ∷ from (take 520 (block_of 1 0 0 [])) (refused row_e 21 0)
     ∷ from (block_of 1 0 0 [] ++ 0 ∷ []) (refused row_e 21 0)
     ∷ from (block_of 0 0 0 []) (refused row_e 22 0)
     ∷ from (block_of 40 33 0 (crowd 32)) (refused row_e 22 0)
     ∷ from (block_of 1 1 2 (task 1 1 (pos 0))) (refused row_e 22 0)
     ∷ from (block_of 1 0 1 []) (refused row_e 22 0)
-    ∷ from (1 ∷ 0 ∷ 0 ∷ 0 ∷ 0 ∷ 0 ∷ 0 ∷ 1 ∷ replicate 512 0) (refused row_e 22 0)
-    ∷ from (block_of 9 4 1 (crowd 1 ++ task 0 1 (pos 0) ++ task 3 0 (pos 0) ++ task 1 1 (pos 0))) (refused row_e 22 2)
-    ∷ from (block_of 9 4 0 (crowd 1 ++ task 10 1 (pos 0) ++ task 3 0 (pos 0) ++ task 1 1 (pos 0))) (refused row_e 22 2)
-    ∷ from (block_of 9 4 0 (crowd 2 ++ task 1 1 (pos 0) ++ task 4 0 (pos 0))) (refused row_e 22 3)
-    ∷ from (block_of 9 3 0 (crowd 2 ++ task 3 0 (pos 0))) (refused row_e 22 3)
-    ∷ from (block_of 9 3 0 (crowd 2 ++ task 3 3 (pos 0))) (refused row_c 22 3)
-    ∷ from (block_of 9 2 0 (crowd 1 ++ task 2 2 (pos 0))) (refused row_d 22 2)
-    ∷ from (block_of 9 2 0 (crowd 1 ++ task 1 1 (pos 0))) (refused row_e 22 2)
-    ∷ from (block_of 9 2 0 (task 3 1 (pos 0) ++ task 3 2 (pos 0))) (refused row_c 22 2)
-    ∷ from (block_of 9 2 0 (crowd 2 ++ task 0 0 (pos 0) ++ task 0 0 (pos 1))) (refused row_e 22 4)
-    ∷ from (block_of 9 2 0 (crowd 2 ++ task 0 0 lowest)) (refused row_e 22 3)
-    ∷ from (block_of 9 2 0 (crowd 2 ++ task 0 256 (pos 0))) (refused row_e 22 3)
-    ∷ from (block_of 9 2 0 (crowd 2 ++ task 3 0 (pos 0))) (refused row_e 22 3)
-    ∷ from (block_of 32 31 0 (crowd 31 ++ task 0 0 (pos 1))) (refused row_e 22 32)
+    ∷ from (1 ∷ 0 ∷ 0 ∷ 0 ∷ 0 ∷ 0 ∷ 0 ∷ 1 ∷ replicate 768 0) (refused row_e 22 0)
+    ∷ from (block_of 9 4 1 (crowd 1 ++ task 0 1 (pos 0) ++ task 3 0 (pos 0) ++ task 1 1 (pos 0))) (refused row_e 22 3)
+    ∷ from (block_of 9 4 0 (crowd 1 ++ task 10 1 (pos 0) ++ task 3 0 (pos 0) ++ task 1 1 (pos 0))) (refused row_e 22 3)
+    ∷ from (block_of 9 4 0 (crowd 2 ++ task 1 1 (pos 0) ++ task 4 0 (pos 0))) (refused row_e 22 5)
+    ∷ from (block_of 9 3 0 (crowd 2 ++ task 3 0 (pos 0))) (refused row_e 22 5)
+    ∷ from (block_of 9 3 0 (crowd 2 ++ task 3 3 (pos 0))) (refused row_c 22 5)
+    ∷ from (block_of 9 2 0 (crowd 1 ++ task 2 2 (pos 0))) (refused row_d 22 3)
+    ∷ from (block_of 9 2 0 (crowd 1 ++ task 1 1 (pos 0))) (refused row_e 22 3)
+    ∷ from (block_of 9 2 0 (task 3 1 (pos 0) ++ task 3 2 (pos 0))) (refused row_c 22 3)
+    ∷ from (block_of 9 2 0 (crowd 2 ++ task 0 0 (pos 0) ++ task 0 0 (pos 1))) (refused row_e 22 7)
+    ∷ from (block_of 9 2 0 (crowd 2 ++ task 0 0 lowest)) (refused row_e 22 5)
+    ∷ from (block_of 9 2 0 (crowd 2 ++ task 0 256 (pos 0))) (refused row_e 22 5)
+    ∷ from (block_of 9 2 0 (crowd 2 ++ task 3 0 (pos 0))) (refused row_e 22 5)
+    ∷ from (block_of 32 31 0 (crowd 31 ++ task 0 0 (pos 1))) (refused row_e 22 63)
     -- "Table first"
     ∷ from (block_of 0 0 0 []) (refused (row 9 0 5 (pos 0)) 12 0)
     ∷ from [] (refused (row 9 0 5 (pos 0)) 12 0)
     -- at a guard a task stands, at its expression none
-    ∷ from (block_of 9 2 0 (crowd 1 ++ task 2 2 (pos 0))) (refused (procedure_of (guard_on one9)) 22 2)
+    ∷ from (block_of 9 2 0 (crowd 1 ++ task 2 2 (pos 0))) (refused (procedure_of (guard_on one9)) 22 3)
     -- every field of a block, read and written: two steps of the active task; a front taken up; a front turned, at an await and at a guard; a task spawned;
     -- one that ends
-    ∷ from (block_with 300 1 (task 3 1 (minus 9)) (task 270 5 (pos 4)) before)
-    (logs (row 7 1 3 (minus 9) ++ row 7 2 3 (minus 2)) (leaves (block_with 300 1 (task 3 5 (minus 9)) (task 270 5 (pos 4)) behind) (within 2 800 read_back 1 2)))
-    ∷ from (block_with 300 0 (task 270 1 (minus 9)) (task 3 5 (pos 4)) before)
-    (logs (row 2 0 270 (pos 0)) (leaves (block_with 300 1 (task 270 1 (minus 9)) (task 3 5 (pos 4)) before) (within 1 800 read_back 1 1)))
-    ∷ from (block_with 300 0 (task 270 1 (minus 9)) (task 3 2 (pos 4)) before)
-    (logs (row 5 0 270 (pos 3)) (leaves (block_with 300 0 (task 3 2 (pos 4)) (task 270 1 (minus 9)) before) (within 1 800 row_c 1 1)))
-    ∷ from (block_with 300 0 (task 270 1 (minus 9)) (task 3 3 (pos 4)) before)
-    (logs (row 5 0 270 (pos 0)) (leaves (block_with 300 0 (task 3 3 (pos 4)) (task 270 1 (minus 9)) before) (within 1 800 (procedure_of (guard_on (row 10 1 0 (pos 0)))) 1 1)))
-    ∷ from (block_of 300 1 1 (task 3 1 (minus 9)))
-    (leaves (block_with 301 1 (task 3 3 (minus 9)) (task 301 4 (pos 0)) (replicate 8 (pos 0) ++ pos 301 ∷ replicate 55 (pos 0))) (within 1 800 spawn_one 1 1))
-    ∷ from (block_with 300 1 (task 3 5 (minus 9)) (task 270 1 (pos 4)) before)
-    (logs (row 6 0 3 (pos 0)) (leaves (bytes2 300 ++ 1 ∷ 0 ∷ 0 ∷ 0 ∷ 0 ∷ 0 ∷ (task 270 1 (pos 4) ++ replicate 248 0 ++ variables before)) (within 1 800 read_back 1 1)))
+    ∷ from (block_with 300 1 (kept 3 1 (minus 9) 2 7) (kept 270 5 (pos 4) 258 70000) before)
+    (logs (row 7 1 3 (minus 9) ++ row 7 2 3 (minus 2))
+    (leaves (block_with 300 1 (kept 3 5 (minus 9) 2 7) (kept 270 5 (pos 4) 258 70000) behind) (within 2 800 read_back 1 2)))
+    ∷ from (block_with 300 0 (kept 270 1 (minus 9) 258 70000) (kept 3 5 (pos 4) 1 7) before)
+    (logs (row 2 0 270 (pos 0))
+    (leaves (block_with 300 1 (kept 270 1 (minus 9) 258 70001) (kept 3 5 (pos 4) 1 7) before) (within 1 800 read_back 1 1)))
+    ∷ from (block_with 300 0 (kept 270 1 (minus 9) 258 70000) (kept 3 2 (pos 4) 1 7) before)
+    (logs (row 5 0 270 (pos 3))
+    (leaves (block_with 300 0 (kept 3 2 (pos 4) 1 7) (kept 270 1 (minus 9) 258 70000) before) (within 1 800 row_c 1 1)))
+    ∷ from (block_with 300 0 (kept 270 1 (minus 9) 258 70000) (kept 3 3 (pos 4) 1 7) before)
+    (logs (row 5 0 270 (pos 0))
+    (leaves (block_with 300 0 (kept 3 3 (pos 4) 1 7) (kept 270 1 (minus 9) 258 70000) before) (within 1 800 (procedure_of (guard_on (row 10 1 0 (pos 0)))) 1 1)))
+    ∷ from (block_of 300 1 1 (kept 258 1 (minus 9) 2 7))
+    (leaves (block_with 301 1 (kept 258 3 (minus 9) 2 7) (kept 301 4 (pos 0) 258 0) (replicate 8 (pos 0) ++ pos 301 ∷ replicate 55 (pos 0)))
+    (within 1 800 spawn_one 1 1))
+    ∷ from (block_with 300 1 (task 3 5 (minus 9)) (kept 270 1 (pos 4) 258 70000) before)
+    (logs (row 6 0 3 (pos 0))
+    (leaves (bytes2 300 ++ 1 ∷ 0 ∷ 0 ∷ 0 ∷ 0 ∷ 0 ∷ (kept 270 1 (pos 4) 258 70000 ++ replicate 496 0 ++ variables before)) (within 1 800 read_back 1 1)))
+    -- request 2.6 of document 02: the times taken up stay at the largest value
+    ∷ from (block_of 9 1 0 (kept 2 1 (pos 0) 1 4294967294)) (leaves (block_of 9 1 1 (kept 2 1 (pos 0) 1 4294967295)) (within 1 8 row_e 1 1))
+    ∷ from (block_of 9 1 0 (kept 2 1 (pos 0) 1 4294967295)) (leaves (block_of 9 1 1 (kept 2 1 (pos 0) 1 4294967295)) (within 1 8 row_e 1 1))
+    -- 22 at a second record: of task 1 a spawner; of another none, its own number, a number above; bytes 2 and 3; an unused one
+    ∷ from (block_of 9 1 0 (kept 1 1 (pos 0) 1 0)) (refused row_e 22 2)
+    ∷ from (block_of 9 1 0 (kept 1 1 (pos 0) 256 0)) (refused row_e 22 2)
+    ∷ from (block_of 9 2 0 (crowd 1 ++ kept 2 1 (pos 0) 0 0)) (refused row_e 22 4)
+    ∷ from (block_of 9 2 0 (crowd 1 ++ kept 2 1 (pos 0) 2 0)) (refused row_e 22 4)
+    ∷ from (block_of 9 2 0 (crowd 1 ++ kept 3 1 (pos 0) 4 0)) (refused row_e 22 4)
+    ∷ from (block_of 9 1 0 (first 1 1 (pos 0) ++ 0 ∷ 0 ∷ 1 ∷ 0 ∷ [])) (refused row_e 22 2)
+    ∷ from (block_of 9 1 0 (first 1 1 (pos 0) ++ 0 ∷ 0 ∷ 0 ∷ 1 ∷ [])) (refused row_e 22 2)
+    ∷ from (block_of 9 1 0 (crowd 1 ++ kept 0 0 (pos 0) 1 0)) (refused row_e 22 4)
+    ∷ from (block_of 9 1 0 (crowd 1 ++ kept 0 0 (pos 0) 0 1)) (refused row_e 22 4)
+    -- a task's second record comes behind its first and before the next task's
+    ∷ from (block_of 9 1 0 (kept 1 0 (pos 0) 1 0)) (refused row_e 22 1)
+    ∷ from (block_of 9 2 0 (kept 1 1 (pos 0) 1 0 ++ task 1 0 (pos 0))) (refused row_e 22 2)
+    -- spawners need not be live
+    ∷ from (block_of 300 2 0 (kept 300 1 (pos 0) 299 0 ++ kept 258 1 (pos 0) 1 0)) (within 0 0 row_e 1 0)
     -- at a spawn: 31 and 32 live, 65,534 and 65,535 issued, both limits, no budget, no room
     ∷ from (block_of 31 31 1 (crowd 31)) (within 1 8 spawn_one 1 1)
     ∷ from (block_of 32 32 1 (crowd 32)) (within 1 8 spawn_one 3 0)
@@ -588,10 +620,11 @@ starts t b n i c = record { table = t; block = b; number = n; place = i; left = 
 -- the table comes before the block, whose length alone counts
 abbrev pub start_rows : List StartRow
 start_rows =
-    starts row_a (replicate 520 255) 0 0 (block_of 1 1 1 (task 1 1 (pos 0)))
-    ∷ starts row_a (replicate 519 7) 21 0 (replicate 519 7)
-    ∷ starts (row 1 0 1 (pos 0) ++ row 9 0 0 (pos 0)) (replicate 519 7) 12 1 (replicate 519 7)
-    ∷ starts (row 1 0 1 (pos 0) ++ row 9 0 0 (pos 0)) (replicate 520 7) 12 1 (replicate 520 7)
+    starts row_a (replicate 776 255) 0 0 (block_of 1 1 1 (task 1 1 (pos 0)))
+    ∷ starts row_a (replicate 775 7) 21 0 (replicate 775 7)
+    ∷ starts row_a (replicate 520 7) 21 0 (replicate 520 7)
+    ∷ starts (row 1 0 1 (pos 0) ++ row 9 0 0 (pos 0)) (replicate 775 7) 12 1 (replicate 775 7)
+    ∷ starts (row 1 0 1 (pos 0) ++ row 9 0 0 (pos 0)) (replicate 776 7) 12 1 (replicate 776 7)
     ∷ starts [] [] 11 0 []
     ∷ []
 
@@ -615,7 +648,7 @@ no_chain t b l n i = record { table = t; block = b; room = l; number = n; end = 
 
 -- the block that a run from the fresh state leaves
 abbrev pub left_by : List ℕ → List ℕ
-left_by t = (run_on t (start_on t (replicate 520 255)).block 1000 (replicate 800 0)).block
+left_by t = (run_on t (start_on t (replicate 776 255)).block 1000 (replicate 800 0)).block
 
 -- At place 1 a task awaits the number that its parameter is; at place 2 it stands at a guard that is untrue, at place 4 at one without a value, at
 -- place 8 it can end.
@@ -666,8 +699,8 @@ why_rows =
     ∷ no_chain row_c alone 64 25 0
     -- the table first, then the block, then 25
     ∷ no_chain (row 9 0 5 (pos 0)) [] 65 12 0
-    ∷ no_chain row_c (take 519 alone) 65 21 0
-    ∷ no_chain row_c (block_of 1 2 0 (task 1 1 (pos 0) ++ task 1 1 (pos 0))) 65 22 2
+    ∷ no_chain row_c (take 775 alone) 65 21 0
+    ∷ no_chain row_c (block_of 1 2 0 (task 1 1 (pos 0) ++ task 1 1 (pos 0))) 65 22 3
     ∷ []
 
 -- ---- request 2.5 of document 02: many recipes checked together
@@ -758,7 +791,7 @@ same_as (some m) l = same m l
 
 -- "Rows run from a fresh state": the one that start writes, whatever the block held
 abbrev pub block_for : Option (List ℕ) → List ℕ → List ℕ
-block_for none t = (start_on t (replicate 520 255)).block
+block_for none t = (start_on t (replicate 776 255)).block
 block_for (some b) t = b
 
 unfoldable pub outcome_of : Row → Outcome

@@ -1,16 +1,17 @@
 -- A recipe for which the waiting bound is tight: the main task gives way behind two tasks that take two steps a burst, a test and a suspend; what its
 -- moments count to, and what picks make of a queue.
 -- Assumes nothing.
-use Rattle.std.specs.Prelude.{ℕ, ◌+◌, ◌*◌, ◌≡◌, List, [], ◌∷◌, ◌++◌, map, pos, length, take, drop, replicate}
-use Rattle.std.proofs.Math.Option.{none}
+use Rattle.std.specs.Prelude.{ℕ, ◌+◌, ◌*◌, ◌≡◌, cond, List, [], ◌∷◌, ◌++◌, map, eqb, pos, length, take, drop, replicate}
+use Rattle.std.proofs.Math.Option.{none, some}
 use Rattle.rules.specs.Recipe.{row}
 use Rattle.rules.specs.Table.{recipe_of}
-use Rattle.rules.specs.State.{Task, State, fresh}
+use Rattle.rules.specs.State.{Task, State, spawned_by, fresh, write_block}
 use Rattle.rules.specs.Scheduler.{Rules, paused}
 use Rattle.rules.specs.Steps.{recipes}
 use Rattle.rules.specs.Moments.{Call, call, budgets, made, Moment, trace}
 use Rattle.rules.specs.Fairness.{steps, records, endings, Linked, tries, Tries, NoTry, aheads, until, longest, Waiting, TakenWithin, pull, try_first, afterwards}
 use Rattle.rules.specs.Demand.{given_out, times}
+use Rattle.rules.specs.Histories.{takes, starters, IsStarter, Histories}
 use Rattle.rules.specs.Trial.{row_c}
 
 abbrev pub table : List ℕ
@@ -32,8 +33,9 @@ moments = trace rules fresh calls
 abbrev pub waiting : List (Moment rules)
 waiting = drop 4 moments
 
+-- (task 1 spawned the others)
 abbrev pub at : ℕ → ℕ → Task ℕ
-at n k = record { number = n; place = k; parameter = pos 0 }
+at n k = record { number = n; place = k; parameter = pos 0; history = spawned_by (cond (eqb n 1) 0 1) }
 
 abbrev pub ahead : List (Task ℕ)
 ahead = at 2 7 ∷ at 3 7 ∷ []
@@ -76,6 +78,10 @@ pub record Counts : Type 0 where
   pub bursts : longest rules 0 (until rules 1 waiting) ≡ 2
   pub given_out_holds : given_out (records rules moments) ≡ 2 ∷ 3 ∷ []
   pub often : times 2 (2 ∷ 3 ∷ 2 ∷ []) ≡ 2
+  -- request 2.6: the tasks taken up, and who spawned task 2 and task 1
+  pub taken_up : takes (records rules moments) ≡ 2 ∷ 3 ∷ 1 ∷ 2 ∷ 3 ∷ 2 ∷ 3 ∷ 2 ∷ []
+  pub spawned_it : starters 2 (records rules moments) ≡ 1 ∷ []
+  pub spawned_none : starters 1 (records rules moments) ≡ []
   pub ended : endings rules moments ≡ paused ∷ paused ∷ paused ∷ paused ∷ []
   -- the tasks tried, in their order, and those ahead of task 2 each time that it is put back
   pub in_turn : numbers (tries rules moments) ≡ 2 ∷ 3 ∷ 1 ∷ 2 ∷ 3 ∷ 2 ∷ 3 ∷ 2 ∷ []
@@ -92,6 +98,27 @@ pub record Counts : Type 0 where
 pub record NoChain : Type 0 where
   pub elsewhere : ¬ Linked rules [] fresh all_wait
   pub another : (c : State) → ¬ Linked rules (record { at = fresh; calls = []; what = made none } ∷ []) fresh c
+
+-- a state of one task, active or queued, and its block
+abbrev pub only_active : Task ℕ → List ℕ
+only_active t = write_block (record { store = all_wait.store; active = some t; queue = [] })
+
+abbrev pub only_queued : Task ℕ → List ℕ
+only_queued t = write_block (record { store = all_wait.store; active = none; queue = t ∷ [] })
+
+abbrev pub with_history : (spawner taken_up : ℕ) → Task ℕ
+with_history s n = record { number = 2; place = 1; parameter = pos 0; history = record { spawner = s; taken_up = n } }
+
+-- What is no history that logs tell: a spawner where no record names the task, another one than it tells, one of two; where there are no logs, a count or a
+-- spawner, of the active task and of a queued one.
+pub record NoHistory : Type 0 where
+  pub unnamed : ¬ IsStarter 1 []
+  pub another : ¬ IsStarter 3 (2 ∷ [])
+  pub twice : (s : ℕ) → ¬ IsStarter s (2 ∷ 2 ∷ [])
+  pub active_counted : ¬ Histories (only_active (with_history 0 1)) []
+  pub queued_counted : ¬ Histories (only_queued (with_history 0 1)) []
+  pub active_spawned : ¬ Histories (only_active (with_history 1 0)) []
+  pub queued_spawned : ¬ Histories (only_queued (with_history 1 0)) []
 
 -- It waits as the bound asks, with bursts of at most 2 steps, and is taken up at step 2 * (2 + 1) + 1 exactly.
 pub record Tight : Type 0 where

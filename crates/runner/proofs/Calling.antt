@@ -19,11 +19,13 @@ use Rattle.rules.specs.Scheduler.{Rules, novalue, halted, number_of, Run, end, s
 use Rattle.rules.specs.Steps.{recipes}
 use Rattle.rules.specs.Run.{Outcome, start_on, stands_at, place_of, room_of, refusal, outcome, open_on, run_on}
 use Rattle.rules.specs.Demand.{Bytes, Chained, Continues}
+use Rattle.rules.specs.Histories.{Histories}
 use Rattle.rules.proofs.Verdicts.{else_fine, cond-fine}
 use Rattle.rules.specs.Answers.{RunAnswers, RunSays, StartAnswers, StartSays}
 use Rattle.rules.proofs.Answers.{run-answers, start-answers}
 use Rattle.rules.proofs.Says.{run-says, start-says}
 use Rattle.rules.proofs.Demand.{chain_meets, continued}
+use Rattle.rules.proofs.Histories.{chain_keeps}
 use Rattle.rules.proofs.Scheduling.Endings.{by_number}
 use Rattle.rules.proofs.NoValue.{bars}
 use Rattle.std.specs.Prelude.{Option, None, Some}
@@ -37,7 +39,7 @@ use Rattle.runner.specs.declared.Started.{Started}
 use Rattle.runner.specs.declared.drive.Ran.{Ran}
 use Rattle.count.specs.Along.{ending_of}
 use Rattle.runner.specs.Drive.{Drives}
-use Rattle.runner.specs.Calls.{started_of, outcome_of, Called, called, result, made_of, Contract, Calls, MeetsDemand, ContinuesAsOne}
+use Rattle.runner.specs.Calls.{started_of, outcome_of, Called, called, result, made_of, Contract, Calls, MeetsDemand, ContinuesAsOne, KeepsHistories}
 
 -- ---- start, by what is found
 
@@ -47,11 +49,11 @@ module _ (t b : List ℕ) where
   start-refused n i e = rw (← e) refl
 
   module _ (e : check t ≡ fine) where
-    pub start-short : ¬ (length b ≡ 520) → record { number = 21; place = 0; block = b } ≡ start_on t b
+    pub start-short : ¬ (length b ≡ 776) → record { number = 21; place = 0; block = b } ≡ start_on t b
     unfolding start_on
-    start-short h = rw (e, ne_eqb (length b) 520 h) refl
+    start-short h = rw (e, ne_eqb (length b) 776 h) refl
 
-    pub start-fresh : (b' : List ℕ) → length b ≡ 520 → b' ≡ write_block fresh → record { number = 0; place = 0; block = b' } ≡ start_on t b
+    pub start-fresh : (b' : List ℕ) → length b ≡ 776 → b' ≡ write_block fresh → record { number = 0; place = 0; block = b' } ≡ start_on t b
     unfolding start_on
     start-fresh b' h g = rw (e, h, g) refl
 
@@ -68,11 +70,11 @@ module _ (t b : List ℕ) (n : ℕ) (l : List ℕ) where
   run_opened e = rw (← e) refl
 
 -- an accepted block has its length and its first record
-pub head_fits_lem : (place : ℕ → _) (b : List ℕ) → check_block place b ≡ fine → (length b ≡ 520) × (head_fits b ≡ true)
+pub head_fits_lem : (place : ℕ → _) (b : List ℕ) → check_block place b ≡ fine → (length b ≡ 776) × (head_fits b ≡ true)
 unfolding check_block check_records record_fits
 head_fits_lem place b h =
-    let p = cond-fine (eqb (length b) 520) _ 21 0 h in
-    let q = else_fine (check_records place b 33 0) _ p.1 in
+    let p = cond-fine (eqb (length b) 776) _ 21 0 h in
+    let q = else_fine (check_records place b 65 0) _ p.1 in
     (eqb-true _ _ p.0, (cond-fine (head_fits b) _ 22 0 q.0).0)
 
 -- ---- the end of a call
@@ -144,6 +146,10 @@ chained : (t b : List ℕ) (cs : List Called) → Calls t b cs → Chained t b (
 chained t b [] h = tt
 chained t b (c ∷ cs) h = (record { kept = h.0 }, chained t c.block_left cs h.1)
 
+same_results : (cs : List Called) → map (λ m. m.result) (map made_of cs) ≡ map result cs
+same_results [] = refl
+same_results (c ∷ cs) = ap (λ (os : List Outcome). result c ∷ os) (same_results cs)
+
 module _ (t b : List ℕ) (bytes-t : Bytes t) (bytes-b : Bytes b) (o : Called) (h : Contract t b o) where
   pub calls_meet : MeetsDemand t b o
   calls_meet cs g = chain_meets t b bytes-t bytes-b (map made_of (o ∷ cs)) (chained t b (o ∷ cs) (h, g))
@@ -168,7 +174,17 @@ promised t b n l bt bb r b' l' is = (
   ),
 )
 
+-- the logs of the calls behind a start tell the history of each live task
+keeps_histories : (t b : List ℕ) → Bytes t → KeepsHistories t (start_on t b)
+keeps_histories t b bytes h cs g = subst (Histories (start_on t b).block) (same_results cs) (chain_keeps t b bytes h (map made_of cs) (chained t (start_on t b).block cs g))
+
 -- all that start promises
-pub start_promised : (t b : List ℕ) (r : Started) (b' : List ℕ) → started_of r b' ≡ start_on t b
-    → (started_of r b' ≡ start_on t b) × (StartAnswers b (started_of r b') × StartSays t b (started_of r b'))
-start_promised t b r b' is = (is, (subst⁻¹ (StartAnswers b) is (start-answers t b), subst⁻¹ (StartSays t b) is (start-says t b)))
+pub start_promised : (t b : List ℕ) → Bytes t → (r : Started) (b' : List ℕ) → started_of r b' ≡ start_on t b
+    → (started_of r b' ≡ start_on t b) × (StartAnswers b (started_of r b') × (StartSays t b (started_of r b') × KeepsHistories t (started_of r b')))
+start_promised t b bytes r b' is = (
+  is,
+  (
+    subst⁻¹ (StartAnswers b) is (start-answers t b),
+    (subst⁻¹ (StartSays t b) is (start-says t b), subst⁻¹ (KeepsHistories t) is (keeps_histories t b bytes)),
+  ),
+)

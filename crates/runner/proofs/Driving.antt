@@ -3,17 +3,18 @@
 use Prim.Native.Nat.{ℕ, zero, suc, ◌≤◌, ◌<◌}
 use mathlib.Core.Path.{◌≡◌, refl, sym, ap, ◌∙◌, subst, subst⁻¹}
 use mathlib.Core.Bool.{true, false≢true}
+use mathlib.Core.Option.{some}
 use mathlib.Core.List.{List, [], ◌∷◌, ◌++◌}
 use native.Mathlib.Omega.{arith}
 use lib.IntN.{ℤ}
-use lib.ListN.{length}
+use lib.ListN.{length, drop}
 use Rattle.std.specs.Prelude.{Option, None, Some, Result, Ok, Err}
 use Rattle.rules.specs.Recipe.{Recipe}
 use Rattle.rules.specs.Table.{recipe_of}
 use Rattle.rules.specs.Places.{is_place, at}
 use Rattle.rules.specs.State as R
 use Rattle.rules.specs.Scheduler.{Run}
-use Rattle.rules.specs.Steps.{recipes, go_to, past_at}
+use Rattle.rules.specs.Steps.{counting, go_to, past_at, counted, recipes}
 use Rattle.rules.specs.Fairness.{Every}
 use Rattle.rules.proofs.Lists.{every_append}
 use Rattle.rules.proofs.Fit.{TaskFit, Fit}
@@ -51,7 +52,9 @@ idle-view s h = rw h refl
 took-up : (r : Recipe) (s : State) (t : Task) → 0 < s.queue.len
     → task_of t ≡ past_at (at r (entry s.queue 0).place) (entry s.queue 0) → task_of t ≡ go_to (entry s.queue 0) t.place
     → take_up (view s).queue t.place (view s) ≡ took_up r (view s).queue (view s)
-took-up r s t some past same = rw (front_rest s.queue some, ← past, ← same) refl
+took-up r s t queued past same =
+    let up : R.Task ℕ → R.State = λ u. record { store = store_of s; active = some (counted counting u); queue = drop 1 (queue_of s.queue) } in
+    rw (front_rest s.queue queued) (ap up (sym same ∙ past))
 
 -- a move that leaves, but neither spawns nor ends, puts the task back
 pub puts_back_else : (m : Move) (c : R.State) → leaves m ≡ true → ((n p : ℕ) (z : ℤ) (k : ℕ) → m ≡ Spawns n p z k → ⊥) → (m ≡ Ends → ⊥) → put_back c.active c ≡ left_by m c

@@ -6,6 +6,7 @@ use Rattle.rules.specs.Run as R
 use Rattle.rules.specs.Run.{Outcome, run_on}
 use Rattle.rules.specs.Demand as D
 use Rattle.rules.specs.Demand.{Meets, Continues}
+use Rattle.rules.specs.Histories.{Histories}
 use Rattle.runner.specs.declared.Started.{Started}
 use Rattle.runner.specs.declared.Answer.{Answer}
 
@@ -56,3 +57,7 @@ abbrev pub ContinuesAsOne : (table block : List ℕ) → Called → Type 0
 ContinuesAsOne t b o = (p q : Called) → Contract t o.block_left p → q.budget ≡ o.answer.steps + p.budget → Contract t b q
     → (o.answer.number ≡ 1) ⊎ (o.answer.number ≡ 5) → ¬ (p.answer.number ≡ 5) → 8 * (o.answer.records + p.answer.records) ≤ length q.log
     → Continues (result o) (result p) (result q)
+
+-- Request 2.6 of document 02, "Over demand 3's lists from a fresh state": whatever calls of run follow this start, their logs tell the history of each live task
+abbrev pub KeepsHistories : (table : List ℕ) → R.Started → Type 0
+KeepsHistories t s = s.number ≡ 0 → (cs : List Called) → Calls t s.block cs → Histories s.block (map result cs)

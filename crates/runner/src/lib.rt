@@ -9,7 +9,7 @@ ghost use Rattle.std.specs.Prelude.{◌≡◌};
 ghost use Rattle.rules.specs.Run.{start_on, run_on};
 ghost use Rattle.rules.specs.Answers.{StartAnswers, StartSays, RunAnswers, RunSays};
 ghost use Rattle.table.specs.Refusals.{rule_number, verdict_of};
-ghost use Rattle.runner.specs.Calls.{started_by, started_of, outcome_of, called, MeetsDemand, ContinuesAsOne};
+ghost use Rattle.runner.specs.Calls.{started_by, started_of, outcome_of, called, MeetsDemand, ContinuesAsOne, KeepsHistories};
 
 use crate::call::{carry_out, verdict};
 use state::State;
@@ -70,7 +70,7 @@ fn set_fresh(table: &[u8], state: &mut [u8]) -> Result<(), Refusal>
     ensures { started_of (started_by (verdict_of result)) state.new ≡ start_on table.now state.old }
 {
     check_table(table)?;
-    if state.len() != 520 {
+    if state.len() != 776 {
         return Err(Rule::BlockLength.at(0));
     }
     block::write(&State::fresh(), state);
@@ -82,6 +82,7 @@ pub fn start(table: &[u8], state: &mut [u8]) -> Started
     ensures state_after { started_of result state.new ≡ start_on table.now state.old }
     ensures start_answers { StartAnswers state.old (started_of result state.new) }
     ensures start_says { StartSays table.now state.old (started_of result state.new) }
+    ensures keeps_histories { KeepsHistories table.now (started_of result state.new) }
 {
     set_fresh(table, state).into()
 }

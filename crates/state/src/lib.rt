@@ -4,16 +4,50 @@
 
 ghost use Rattle.std.specs.Prelude.{◌≡◌, ◌+◌, ◌<◌, ◌≤◌, IsSome};
 
-// A task by its number, the place where it stands, and its parameter.
+// Who spawned a task, and how often it was taken up.
+#[derive(Clone, Copy)]
+pub struct History {
+    pub spawner: u16,
+    pub taken_up: u32,
+}
+
+impl History {
+    ghost use Rattle.rules.specs.State.{spawned_by};
+    ghost use Rattle.rules.specs.Steps.{once_more};
+    ghost use Rattle.state.specs.View.{history_of};
+
+    // That of a task that was never taken up.
+    pub fn spawned_by(spawner: u16) -> History
+        ensures { history_of result ≡ spawned_by spawner }
+    {
+        History {
+            spawner,
+            taken_up: 0,
+        }
+    }
+
+    // Taken up once more.
+    fn once_more(self) -> History
+        ensures { history_of result ≡ once_more (history_of self) }
+    {
+        History {
+            spawner: self.spawner,
+            taken_up: self.taken_up.saturating_add(1),
+        }
+    }
+}
+
+// A task by its number, the place where it stands, its parameter and its history.
 #[derive(Clone, Copy)]
 pub struct Task {
     pub number: u16,
     pub place: u16,
     pub parameter: i32,
+    pub history: History,
 }
 
 impl Task {
-    ghost use Rattle.rules.specs.Steps.{go_to};
+    ghost use Rattle.rules.specs.Steps.{counting, go_to, counted};
     ghost use Rattle.state.specs.View.{task_of};
 
     // The task where it goes on.
@@ -24,6 +58,17 @@ impl Task {
             number: self.number,
             place,
             parameter: self.parameter,
+            history: self.history,
+        }
+    }
+
+    // The task as it is taken up.
+    fn counted(self) -> Task
+        ensures { task_of result ≡ counted counting (task_of self) }
+    {
+        Task {
+            history: self.history.once_more(),
+            ..self
         }
     }
 }
@@ -121,7 +166,7 @@ pub struct State {
 impl State {
     ghost use Rattle.rules.specs.State as R;
     ghost use Rattle.rules.specs.Steps.{go_to};
-    ghost use Rattle.state.specs.View.{task_of, entry, view, put_back, take_up, spawn, end, turn};
+    ghost use Rattle.state.specs.View.{task_of, entry, view, put_back, take_up, acting, spawn, end, turn};
 
     // A fresh state.
     pub fn fresh() -> State
@@ -131,6 +176,7 @@ impl State {
             number: 1,
             place: 1,
             parameter: 0,
+            history: History::spawned_by(0),
         };
         State {
             issued: 1,
@@ -160,7 +206,7 @@ impl State {
         }
     }
 
-    // The front, which is handed over at the place where it goes on, becomes active.
+    // The front, which is handed over at the place where it goes on, becomes active, and is counted.
     pub fn take_up(self, task: Task) -> State
         requires idle { self.active ≡ None }
         requires queued { 0 < self.queue.len }
@@ -170,13 +216,23 @@ impl State {
         let variables = self.variables;
         State {
             issued: self.issued,
-            active: Some(task),
+            active: Some(task.counted()),
             queue: self.queue.popped(),
             variables,
         }
     }
 
-    // The next number is issued, and its task joins the back.
+    // The number of the active task: 0 if none is.
+    fn acting(&self) -> u16
+        ensures { result ≡ acting (view self.now).active }
+    {
+        match self.active {
+            Some(task) => task.number,
+            None => 0,
+        }
+    }
+
+    // The next number is issued, and its task, spawned by the active one, joins the back.
     pub fn spawn(self, place: u16, argument: i32) -> State
         requires live { self.queue.len < 31 }
         requires issued { self.issued < 65535 }
@@ -187,6 +243,7 @@ impl State {
             number,
             place,
             parameter: argument,
+            history: History::spawned_by(self.acting()),
         };
         let variables = self.variables;
         State {

@@ -9,4 +9,4 @@ use Rattle.block.proofs.check_records.Given as goal
 abbrev pub invariant-loop-i : goal.invariant-loop-i
 invariant-loop-i l =
     OffsetOf l.i l.at
-    × (check_records (is_place (recipe_of l.table.bytes.now)) l.block (33 - l.i) l.i ≡ check_records (is_place (recipe_of l.table.bytes.now)) l.block 33 0)
+    × (check_records (is_place (recipe_of l.table.bytes.now)) l.block (65 - l.i) l.i ≡ check_records (is_place (recipe_of l.table.bytes.now)) l.block 65 0)

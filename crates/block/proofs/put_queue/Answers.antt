@@ -20,4 +20,4 @@ loop-i-preserved c =
     let l = c.loop-i in
     let f : ℕ → List ℕ = λ i. task_row (entry a.queue.now i) in
     let e : c.put_task.new.b ≡ sets l.b l.to (f l.i) = c.put_task.ensures ∙ ap (sets l.b l.to) (ap task_row c.task.ensures) in
-    (omega arith, omega arith, rw e (joined_more l.b (take a.start a.b.now) f l.i l.to 8 (f l.i) refl (omega arith) l.invariant.2 refl))
+    (omega arith, omega arith, rw e (joined_more l.b (take a.start a.b.now) f l.i l.to 16 (f l.i) refl (omega arith) l.invariant.2 refl))

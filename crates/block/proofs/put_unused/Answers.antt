@@ -1,38 +1,16 @@
-use mathlib.Core.Path.{◌≡◌, refl, sym}
-use mathlib.Core.List.{List, append-nil}
-use Prim.Native.Nat.{ℕ, suc, ◌+◌, ◌-◌}
+use mathlib.Core.Path.{◌≡◌, ap, ◌∙◌}
+use Prim.Native.Nat.{ℕ, ◌-◌}
 use native.Mathlib.Omega.{arith}
-use lib.ListN.{take}
-use lib.Seq.{sets}
-use Rattle.rules.specs.Fields.{bytes4}
-use Rattle.rules.specs.State.{joined, task_row, no_task}
-use Rattle.rules.proofs.Lists.{joined_more}
+use borrow.Rule.Slice.PartMut.{mid_of}
+use lib.ListN.{length, replicate, length-replicate}
+use Rattle.std.proofs.Common.{rules}
+use Rattle.std.proofs.lemmas.Slice.{take-put_mid}
 use Rattle.block.proofs.put_unused.Goals as goal
-
-pub loop-init : goal.loop-init
-unfolding joined
-loop-init c =
-    let a = c.args in
-    let e : a.first - a.first ≡ 0 = omega arith in
-    (c.requires.offset, rw e (sym (append-nil _)))
-
-pub loop-preserved : goal.loop-preserved
-unfolding task_row
-loop-preserved c =
-    let a = c.args in
-    let l = c.loop in
-    let i = l.counter - a.first in
-    let f : ℕ → List ℕ = λ i. task_row no_task in
-    let at4 : l.unused + 4 ≡ suc (suc (suc (suc l.unused))) = omega arith in
-    let p : c.put_word.new.b ≡ sets l.b l.unused (bytes4 0) = c.put_word.ensures in
-    let q : c.put_word-in-loop.new.b ≡ sets c.put_word.new.b (l.unused + 4) (bytes4 0) = c.put_word-in-loop.ensures in
-    let e : c.put_word-in-loop.new.b ≡ sets l.b l.unused (f i) = rw (q, p, at4) in
-    let m : l.counter + 1 - a.first ≡ i + 1 = omega arith in
-    (omega arith, rw (m, e) (joined_more l.b (take a.start a.b.now) f i l.unused 8 (f i) refl (omega arith) l.invariant.1 refl))
 
 pub returns : goal.returns
 returns c =
-    let l = c.loop in
-    let e : l.counter ≡ 33 = omega arith in
-    let to : l.unused ≡ 264 = omega arith in
-    rw (e, to) at l.invariant.1
+    let a = c.args in
+    let n = 520 - a.start in
+    let long : length (mid_of a.start n a.b.now) ≡ n = search (rules, arith) in
+    let zeros : c.fill.new.self ≡ replicate n 0 = c.fill.ensures.after (λ y h. h) ∙ ap (λ (k : ℕ). replicate k 0) long in
+    rw zeros (take-put_mid a.start n a.b.now (replicate n 0) 520 (omega (arith, length-replicate {A = ℕ} n 0)) (omega arith))

@@ -9,4 +9,4 @@ use Rattle.block.proofs.put_variables.Given as goal
 
 abbrev pub invariant-loop-j : goal.invariant-loop-j
 invariant-loop-j l =
-    (length l.b ≡ 520) × (take (264 + 4 * l.j) l.b ≡ take 264 l.initial.b ++ joined l.j (λ k. bytes4 (bits (get_or l.variables k (pos 0)))))
+    (length l.b ≡ 776) × (take (520 + 4 * l.j) l.b ≡ take 520 l.initial.b ++ joined l.j (λ k. bytes4 (bits (get_or l.variables k (pos 0)))))

@@ -1,20 +1,20 @@
 -- What the check of a state block asks, as facts: it finds no fault exactly where they hold.
 -- Assumes nothing.
-use Prim.Native.Nat.{ℕ, zero, suc, ◌+◌, ◌-◌, ◌*◌, ◌≤◌, ◌<◌}
-use mathlib.Core.Path.{◌≡◌, refl}
+use Prim.Native.Nat.{ℕ, zero, suc, ◌+◌, ◌-◌, ◌*◌, ◌/◌, ◌%◌, ◌≤◌, ◌<◌}
+use mathlib.Core.Path.{◌≡◌, refl, sym, ◌∙◌}
 use mathlib.Core.Bool.{Bool, true, ◌&&◌, cond}
 use mathlib.Core.List.{List}
 use mathlib.Core.Logic.{⊎_elim, dite}
 use native.Mathlib.Omega.{arith}
-use native.Mathlib.Decide.{dec_lt}
+use native.Mathlib.Decide.{dec_lt, ℕ_discrete}
 use native.Mathlib.Nat.{eq-or-lt_of_le}
 use native.Mathlib.Numerals.{add-one}
 use lib.Dec.{eqb, leb}
 use lib.ListN.{length}
 use borrow.Author.Tests.{le-leb, lt-leb, leb-true, eq-eqb, eqb-true}
-use Rattle.rules.specs.Fields.{word}
+use Rattle.rules.specs.Fields.{half, word}
 use Rattle.rules.specs.Table.{fine}
-use Rattle.rules.specs.State.{issued_in, live_in, active_in, head_fits, number_in, place_in, unlike, task_fits, unused_fits, record_fits, check_records, check_block}
+use Rattle.rules.specs.State.{issued_in, live_in, active_in, head_fits, number_in, place_in, unlike, task_fits, spawner_in, spawner_fits, history_fits, unused_fits, record_fits, check_records, check_block}
 use Rattle.rules.proofs.Verdicts.{and_true, else_fine, cond-fine}
 
 -- record 0
@@ -24,22 +24,27 @@ pub record HeadFit (b : List ℕ) : Type 0 where
   pub active : active_in b ≤ cond (eqb (live_in b) 0) 0 1
   pub zeros : word b 4 ≡ 0
 
--- record i, of a task; unused
+-- record i, a task's first; a task's second; unused
 pub record UsedFit (place : ℕ → Bool) (b : List ℕ) (i : ℕ) : Type 0 where
   pub from_one : 1 ≤ number_in b i
   pub was_issued : number_in b i ≤ issued_in b
-  pub new : unlike b (number_in b i) (i - 1) ≡ true
+  pub new : unlike b (number_in b i) (i / 2) ≡ true
   pub placed : place (place_in b i) ≡ true
+
+pub record HistoryFit (b : List ℕ) (i : ℕ) : Type 0 where
+  pub spawner-fits : spawner_fits (number_in b (i - 1)) (spawner_in b i) ≡ true
+  pub zeros : half b (8 * i + 2) ≡ 0
 
 pub record UnusedFit (b : List ℕ) (i : ℕ) : Type 0 where
   pub front : word b (8 * i) ≡ 0
   pub back : word b (8 * i + 4) ≡ 0
 
 pub record Accepted (place : ℕ → Bool) (b : List ℕ) : Type 0 where
-  pub whole : length b ≡ 520
+  pub whole : length b ≡ 776
   pub head : HeadFit b
-  pub used : (i : ℕ) → i < live_in b → UsedFit place b (i + 1)
-  pub unused : (i : ℕ) → live_in b ≤ i → i < 32 → UnusedFit b (i + 1)
+  pub used : (k : ℕ) → k < live_in b → UsedFit place b (2 * k + 1)
+  pub histories : (k : ℕ) → k < live_in b → HistoryFit b (2 * k + 1 + 1)
+  pub unused : (i : ℕ) → 2 * live_in b ≤ i → i < 64 → UnusedFit b (i + 1)
   pub enough : live_in b ≤ issued_in b
 
 four : (p q s t : Bool) → (p && q && s && t) ≡ true → (p ≡ true) × (q ≡ true) × (s ≡ true) × (t ≡ true)
@@ -65,12 +70,22 @@ module _ (place : ℕ → Bool) (b : List ℕ) where
   used_facts : (i : ℕ) → task_fits place b i ≡ true → UsedFit place b i
   unfolding task_fits
   used_facts i h =
-      let f = four (leb 1 (number_in b i)) (leb (number_in b i) (issued_in b)) (unlike b (number_in b i) (i - 1)) (place (place_in b i)) h in
+      let f = four (leb 1 (number_in b i)) (leb (number_in b i) (issued_in b)) (unlike b (number_in b i) (i / 2)) (place (place_in b i)) h in
       record { from_one = leb-true _ _ f.0; was_issued = leb-true _ _ f.1; new = f.2; placed = f.3 }
 
   facts_used : (i : ℕ) → UsedFit place b i → task_fits place b i ≡ true
   unfolding task_fits
   facts_used i f = rw (le-leb _ _ f.from_one, le-leb _ _ f.was_issued, f.new, f.placed)
+
+  history_facts : (i : ℕ) → history_fits b i ≡ true → HistoryFit b i
+  unfolding history_fits
+  history_facts i h =
+      let f = and_true (spawner_fits (number_in b (i - 1)) (spawner_in b i)) (eqb (half b (8 * i + 2)) 0) h in
+      record { spawner-fits = f.0; zeros = eqb-true _ _ f.1 }
+
+  facts_history : (i : ℕ) → HistoryFit b i → history_fits b i ≡ true
+  unfolding history_fits
+  facts_history i f = rw (f.spawner-fits, eq-eqb _ _ f.zeros)
 
   unused-facts : (i : ℕ) → unused_fits b i ≡ true → UnusedFit b i
   unfolding unused_fits
@@ -96,28 +111,52 @@ module _ (place : ℕ → Bool) (b : List ℕ) where
   fit_records zero i h = refl
   fit_records (suc n) i h = rw (h i (omega arith) (omega arith)) (fit_records n (i + 1) (λ k g l. h k (omega arith) (omega arith)))
 
+  -- what is asked of the record behind i others: of a task's first, its second, an unused one
+  first_asked : (i : ℕ) → i < 2 * live_in b → i % 2 ≡ 0 → record_fits place b (suc i) ≡ task_fits place b (suc i)
+  unfolding record_fits
+  first_asked i l e = rw (le-leb (suc i) (2 * live_in b) l, eq-eqb (i % 2) 0 e) refl
+
+  second_asked : (i : ℕ) → i < 2 * live_in b → i % 2 ≡ 1 → record_fits place b (suc i) ≡ history_fits b (suc i)
+  unfolding record_fits
+  second_asked i l e = rw (le-leb (suc i) (2 * live_in b) l, e) refl
+
+  unused-asked : (i : ℕ) → 2 * live_in b ≤ i → record_fits place b (suc i) ≡ unused_fits b (suc i)
+  unfolding record_fits
+  unused-asked i l = rw (lt-leb (suc i) (2 * live_in b) (omega arith)) refl
+
   pub accepted : check_block place b ≡ fine → Accepted place b
   unfolding check_block record_fits
   accepted h =
-      let p = cond-fine (eqb (length b) 520) _ 21 0 h in
-      let q = else_fine (check_records place b 33 0) _ p.1 in
-      let each = records_fit 33 0 q.0 in
+      let p = cond-fine (eqb (length b) 776) _ 21 0 h in
+      let q = else_fine (check_records place b 65 0) _ p.1 in
+      let each = records_fit 65 0 q.0 in
       let head = head_facts b (each 0 (omega arith) (omega arith)) in
       record {
         whole = eqb-true _ _ p.0;
         head = head;
-        used = λ i l. rw add-one (used_facts (suc i) (rw (le-leb (suc i) (live_in b) (omega arith)) at (each (suc i) (omega arith) (omega (arith, head.few)))));
-        unused = λ i g l. rw add-one (unused-facts (suc i) (rw (lt-leb (suc i) (live_in b) (omega arith)) at (each (suc i) (omega arith) (omega arith))));
+        used = λ k l. rw (add-one (2 * k)) (used_facts (suc (2 * k)) (sym (first_asked (2 * k) (omega arith) (omega arith)) ∙ each (suc (2 * k)) (omega arith) (omega (arith, head.few))));
+        histories = λ k l.
+            rw (add-one (2 * k + 1)) (history_facts (suc (2 * k + 1)) (sym (second_asked (2 * k + 1) (omega arith) (omega arith)) ∙ each (suc (2 * k + 1)) (omega arith) (omega (arith, head.few))));
+        unused = λ i g l. rw add-one (unused-facts (suc i) (sym (unused-asked i g) ∙ each (suc i) (omega arith) (omega arith)));
         enough = leb-true _ _ (cond-fine (leb (live_in b) (issued_in b)) fine 23 0 q.1).0;
       }
 
   pub checked : Accepted place b → check_block place b ≡ fine
   unfolding check_block record_fits
-  checked f = rw (eq-eqb _ _ f.whole, fit_records 33 0 (λ k g l. each k l), le-leb _ _ f.enough)
+  checked f = rw (eq-eqb _ _ f.whole, fit_records 65 0 (λ k g l. each k l), le-leb _ _ f.enough)
     where
-      each : (i : ℕ) → i < 33 → record_fits place b i ≡ true
+      -- record i + 1, of the task behind k others
+      each-used : (i k : ℕ) → i < 2 * live_in b → k ≡ i / 2 → record_fits place b (suc i) ≡ true
+      each-used i k l e =
+          dite (ℕ_discrete (i % 2) 0)
+          (λ m. let z : 2 * k + 1 ≡ suc i = omega arith in
+          first_asked i l m ∙ facts_used (suc i) (rw z at (f.used k (omega arith))))
+          (λ m. let z : 2 * k + 1 + 1 ≡ suc i = omega arith in
+          second_asked i l (omega arith) ∙ facts_history (suc i) (rw z at (f.histories k (omega arith))))
+
+      each : (i : ℕ) → i < 65 → record_fits place b i ≡ true
       each zero l = facts_head f.head
       each (suc i) l =
-          dite (dec_lt i (live_in b))
-          (λ m. rw (le-leb (suc i) (live_in b) m) (facts_used (suc i) (rw add-one at (f.used i m))))
-          (λ m. rw (lt-leb (suc i) (live_in b) (omega arith)) (facts-unused (suc i) (rw add-one at (f.unused i (omega arith) (omega arith)))))
+          dite (dec_lt i (2 * live_in b))
+          (λ m. each-used i (i / 2) m refl)
+          (λ m. unused-asked i (omega arith) ∙ facts-unused (suc i) (rw add-one at (f.unused i (omega arith) (omega arith))))

@@ -1,6 +1,6 @@
 -- Task numbers that are all different, counted: as the check of a block compares them, and against the highest issued.
 -- Assumes nothing.
-use Prim.Native.Nat.{ℕ, zero, suc, ◌+◌, ◌≤◌, ◌<◌}
+use Prim.Native.Nat.{ℕ, zero, suc, ◌+◌, ◌*◌, ◌≤◌, ◌<◌}
 use mathlib.Core.Path.{◌≡◌, refl, sym}
 use mathlib.Core.Bool.{not, ◌&&◌, and-true, and-false}
 use mathlib.Core.List.{List, [], ◌∷◌}
@@ -8,7 +8,6 @@ use mathlib.Core.Logic.{⊎_elim, dite}
 use native.Mathlib.Decide.{ℕ_discrete}
 use native.Mathlib.Omega.{arith}
 use native.Mathlib.Nat.{eq-or-lt_of_le, add-zero}
-use native.Mathlib.Numerals.{add-one}
 use lib.Dec.{eqb}
 use lib.ListN.{length}
 use borrow.Author.Tests.{eq-eqb, ne_eqb}
@@ -49,11 +48,11 @@ module _ (r : Recipe) where
       let e : many n (tab (suc i) f) ≡ many n (tab i f) + 1 = rw (many_more n i f, eq-eqb n n refl) in
       omega (arith, e, many_grows n (suc i) k f l, h n)
 
-  -- unlike asks that none of the tasks of records 1 to k has the number n
-  pub unlike-many : (b : List ℕ) (n k : ℕ) → unlike b n k ≡ eqb (many n (tab k (λ i. task_in b (i + 1)))) 0
+  -- unlike asks that none of the first k tasks has the number n
+  pub unlike-many : (b : List ℕ) (n k : ℕ) → unlike b n k ≡ eqb (many n (tab k (λ i. task_in b (2 * i + 1)))) 0
   unfolding unlike
   unlike-many b n zero = unfold tab in refl
-  unlike-many b n (suc k) = rw (unlike-many b n k, many_more n k (λ i. task_in b (i + 1)), ← add-one k) (none_more _ (number_in b (k + 1)) n)
+  unlike-many b n (suc k) = rw (unlike-many b n k, many_more n k (λ i. task_in b (2 * i + 1))) (none_more _ (number_in b (2 * k + 1)) n)
 
   pub none_many : (n : ℕ) (ts : List (Task ℕ)) → Every (λ t. ¬ (n ≡ t.number)) ts → many n ts ≡ 0
   none_many n [] h = refl

@@ -196,17 +196,17 @@ module _ (place : ℕ → Bool) (b : List ℕ) where
 
   -- which check says it
   data SaidB (n i : ℕ) : Type 0 where
-    of_block_lem : n ≡ 21 → i ≡ 0 → ¬ (length b ≡ 520) → SaidB n i
-    of_state : check_records place b 33 0 ≡ fault n i → SaidB n i
+    of_block_lem : n ≡ 21 → i ≡ 0 → ¬ (length b ≡ 776) → SaidB n i
+    of_state : check_records place b 65 0 ≡ fault n i → SaidB n i
     of_numbers : n ≡ 23 → SaidB n i
 
   said_b : (n i : ℕ) → check_block place b ≡ fault n i → SaidB n i
   unfolding check_block
-  said_b n i e = go (eqb (length b) 520) refl (check_records place b 33 0) refl (leb (live_in b) (issued_in b)) e
+  said_b n i e = go (eqb (length b) 776) refl (check_records place b 65 0) refl (leb (live_in b) (issued_in b)) e
     where
-      go : (x : Bool) → eqb (length b) 520 ≡ x → (v : Verdict) → check_records place b 33 0 ≡ v → (y : Bool)
+      go : (x : Bool) → eqb (length b) 776 ≡ x → (v : Verdict) → check_records place b 65 0 ≡ v → (y : Bool)
           → cond x (v else cond y fine (fault 23 0)) (fault 21 0) ≡ fault n i → SaidB n i
-      go false h v g y e = of_block_lem (let z : 21 ≡ n = cc in sym z) (let z : 0 ≡ i = cc in sym z) (eqb-false (length b) 520 h)
+      go false h v g y e = of_block_lem (let z : 21 ≡ n = cc in sym z) (let z : 0 ≡ i = cc in sym z) (eqb-false (length b) 776 h)
       go true h (fault m j) g y e = of_state (g ∙ e)
       go true h fine g false e = of_numbers (let z : 23 ≡ n = cc in sym z)
       go true h fine g true e = absurd (let z : ◌≡◌ {A = ℕ} 0 1 = cc in omega arith)
@@ -214,14 +214,14 @@ module _ (place : ℕ → Bool) (b : List ℕ) where
   pub earliest_state : EarliestState place b
   earliest_state = record { a_record = λ i e. records i (said_b 22 i e); a_length = λ i e. size i (said_b 21 i e) }
     where
-      records : (i : ℕ) → SaidB 22 i → (i < 33) × ((j : ℕ) → j < i → record_fits place b j ≡ true) × (record_fits place b i ≡ false)
+      records : (i : ℕ) → SaidB 22 i → (i < 65) × ((j : ℕ) → j < i → record_fits place b j ≡ true) × (record_fits place b i ≡ false)
       records i (of_block_lem h g f) = absurd (omega arith)
       records i (of_state h) =
-          let r = (records-first 33 0 22 i h).1 in
+          let r = (records-first 65 0 22 i h).1 in
           (omega (arith, r.below), λ j l. not-false (record_fits place b j) (r.least j (omega arith) l), not-true (record_fits place b i) r.holds)
       records i (of_numbers h) = absurd (omega arith)
 
-      size : (i : ℕ) → SaidB 21 i → (i ≡ 0) × (¬ (length b ≡ 520))
+      size : (i : ℕ) → SaidB 21 i → (i ≡ 0) × (¬ (length b ≡ 776))
       size i (of_block_lem h g f) = (g, f)
-      size i (of_state h) = absurd (omega (arith, (records-first 33 0 21 i h).0))
+      size i (of_state h) = absurd (omega (arith, (records-first 65 0 21 i h).0))
       size i (of_numbers h) = absurd (omega arith)

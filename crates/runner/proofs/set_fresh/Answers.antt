@@ -9,10 +9,10 @@ returns-in_err-check_table c =
     let p = err_from_is_err_and c.from_residual.result c.from_residual.ensures.1 in
     rw (p.1, p.2) (start-refused c.args.table.now c.args.state.now _ _ c.in_err-check_table.ensures.verdict)
 
-pub returns-then-state-ne520 : goal.returns-then-state-ne520
-returns-then-state-ne520 c =
-    rw c.at.ensures (start-short c.args.table.now c.args.state.now (sym c.in_ok-check_table.ensures.verdict) c.if-state-ne520.true)
+pub returns-then-state-ne776 : goal.returns-then-state-ne776
+returns-then-state-ne776 c =
+    rw c.at.ensures (start-short c.args.table.now c.args.state.now (sym c.in_ok-check_table.ensures.verdict) c.if-state-ne776.true)
 
 pub returns : goal.returns
 returns c =
-    start-fresh c.args.table.now c.args.state.now (sym c.in_ok-check_table.ensures.verdict) _ c.if-state-ne520.false (c.write.ensures ∙ ap write_block c.fresh.ensures)
+    start-fresh c.args.table.now c.args.state.now (sym c.in_ok-check_table.ensures.verdict) _ c.if-state-ne776.false (c.write.ensures ∙ ap write_block c.fresh.ensures)

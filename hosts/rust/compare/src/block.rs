@@ -5,28 +5,91 @@ use crate::recipe::{Recipe, AWAIT};
 use crate::writer::random_value;
 
 /// The bytes of a block.
-pub const BLOCK: usize = 520;
+pub const BLOCK: usize = 776;
 /// The most live tasks.
 pub const TASKS: usize = 32;
+/// The bytes of a task: its first record, and its second directly behind.
+pub const TASK: usize = 16;
 
-/// Writes bytes 0–1 of a state record: the highest number issued, or a task's number.
-pub fn put_number(block: &mut [u8], record: usize, number: u16) {
-    block[8 * record..8 * record + 2].copy_from_slice(&number.to_le_bytes());
+/// The first byte of a task, counted from 1.
+pub const fn task_at(task: usize) -> usize {
+    8 + TASK * (task - 1)
 }
 
-/// Bytes 0–1 of a state record.
-fn number(block: &[u8], record: usize) -> u16 {
-    u16::from_le_bytes([block[8 * record], block[8 * record + 1]])
+/// The first byte of a task's second record.
+pub const fn second_at(task: usize) -> usize {
+    task_at(task) + 8
+}
+
+/// The first byte of a variable.
+pub const fn variable_at(name: usize) -> usize {
+    task_at(TASKS + 1) + 4 * name
+}
+
+fn put<const N: usize>(block: &mut [u8], at: usize, bytes: [u8; N]) {
+    block[at..at + N].copy_from_slice(&bytes);
+}
+
+/// Writes the highest number issued.
+pub fn put_issued(block: &mut [u8], number: u16) {
+    put(block, 0, number.to_le_bytes());
+}
+
+fn issued(block: &[u8]) -> u16 {
+    u16::from_le_bytes([block[0], block[1]])
+}
+
+/// Writes a task's number.
+pub fn put_number(block: &mut [u8], task: usize, number: u16) {
+    put(block, task_at(task), number.to_le_bytes());
+}
+
+fn number(block: &[u8], task: usize) -> u16 {
+    u16::from_le_bytes([block[task_at(task)], block[task_at(task) + 1]])
 }
 
 /// Writes a task's place.
-pub fn put_place(block: &mut [u8], record: usize, place: u16) {
-    block[8 * record + 2..8 * record + 4].copy_from_slice(&place.to_le_bytes());
+pub fn put_place(block: &mut [u8], task: usize, place: u16) {
+    put(block, task_at(task) + 2, place.to_le_bytes());
 }
 
-/// Writes a task's parameter or a variable, at its first byte.
-pub fn put_value(block: &mut [u8], at: usize, value: i32) {
-    block[at..at + 4].copy_from_slice(&value.to_le_bytes());
+/// Writes a task's parameter.
+pub fn put_parameter(block: &mut [u8], task: usize, value: i32) {
+    put(block, task_at(task) + 4, value.to_le_bytes());
+}
+
+/// Writes the number of a task's spawner.
+pub fn put_spawner(block: &mut [u8], task: usize, spawner: u16) {
+    put(block, second_at(task), spawner.to_le_bytes());
+}
+
+/// Writes the times that a task was taken up.
+pub fn put_taken(block: &mut [u8], task: usize, times: u32) {
+    put(block, second_at(task) + 4, times.to_le_bytes());
+}
+
+/// Writes a variable.
+pub fn put_variable(block: &mut [u8], name: usize, value: i32) {
+    put(block, variable_at(name), value.to_le_bytes());
+}
+
+/// A spawner that a task of this number may have, of which there is none for task 1.
+pub fn random_spawner(random: &mut Random, number: u16) -> u16 {
+    match number {
+        0 | 1 => 0,
+        _ if random.percent(30) => number - 1,
+        _ => random.within(1, usize::from(number) - 1) as u16,
+    }
+}
+
+/// Often few, or near the largest value.
+fn random_times(random: &mut Random) -> u32 {
+    match random.below(10) {
+        0..3 => 0,
+        3..6 => random.below(300) as u32,
+        6..8 => random.word() as u32,
+        _ => u32::MAX - random.below(3) as u32,
+    }
 }
 
 /// A block that passes for the recipe, with tasks at any of its places.
@@ -49,19 +112,19 @@ pub fn random_block(random: &mut Random, recipe: &Recipe) -> Vec<u8> {
 /// A block that passes, with the given first record.
 pub fn block_of(random: &mut Random, recipe: &Recipe, issued: u16, live: usize, active: bool) -> Vec<u8> {
     let mut block = vec![0; BLOCK];
-    put_number(&mut block, 0, issued);
+    put_issued(&mut block, issued);
     block[2] = live as u8;
     block[3] = u8::from(active);
     for (i, number) in task_numbers(random, issued, live).into_iter().enumerate() {
         put_number(&mut block, i + 1, number);
         put_place(&mut block, i + 1, random.pick(&recipe.places));
-        let parameter = some_value(random, issued);
-        put_value(&mut block, 8 * i + 12, parameter);
+        put_parameter(&mut block, i + 1, some_value(random, issued));
+        put_spawner(&mut block, i + 1, random_spawner(random, number));
+        put_taken(&mut block, i + 1, random_times(random));
     }
-    for variable in 0..64 {
+    for name in 0..64 {
         if random.percent(30) {
-            let value = some_value(random, issued);
-            put_value(&mut block, 264 + 4 * variable, value);
+            put_variable(&mut block, name, some_value(random, issued));
         }
     }
     block
@@ -81,14 +144,14 @@ pub fn waiting_block(random: &mut Random, recipe: &Recipe) -> Vec<u8> {
         _ => random.within(live, 65_535),
     };
     let mut block = block_of(random, recipe, issued as u16, live, false);
-    for record in 1..=live {
-        put_place(&mut block, record, random.pick(&recipe.waits));
+    for task in 1..=live {
+        put_place(&mut block, task, random.pick(&recipe.waits));
         let parameter = awaited_value(random, &block);
-        put_value(&mut block, 8 * record + 4, parameter);
+        put_parameter(&mut block, task, parameter);
     }
-    for variable in 0..64 {
+    for name in 0..64 {
         let value = awaited_value(random, &block);
-        put_value(&mut block, 264 + 4 * variable, value);
+        put_variable(&mut block, name, value);
     }
     if random.percent(50) {
         in_a_row(random, recipe, &mut block);
@@ -98,7 +161,7 @@ pub fn waiting_block(random: &mut Random, recipe: &Recipe) -> Vec<u8> {
 
 /// The number of a live task, mostly.
 fn awaited_value(random: &mut Random, block: &[u8]) -> i32 {
-    let issued = number(block, 0);
+    let issued = issued(block);
     match random.below(100) {
         0..88 => number(block, random.within(1, block[2].into())).into(),
         88..92 => 0,
@@ -121,7 +184,7 @@ fn in_a_row(random: &mut Random, recipe: &Recipe, block: &mut [u8]) {
     for pair in order.windows(2) {
         put_place(block, pair[0], place);
         let next = number(block, pair[1]);
-        put_value(block, 8 * pair[0] + 4, next.into());
+        put_parameter(block, pair[0], next.into());
     }
 }
 
@@ -162,10 +225,13 @@ pub enum Way {
     PlaceZero,
     PlaceExpression,
     PlacePast,
+    SpawnerNone,
+    SpawnerOver,
+    SecondNotZero,
     UnusedNotZero,
 }
 
-pub const WAYS: [Way; 13] = [
+pub const WAYS: [Way; 16] = [
     Way::Length,
     Way::NoneIssued,
     Way::LiveOver,
@@ -178,17 +244,20 @@ pub const WAYS: [Way; 13] = [
     Way::PlaceZero,
     Way::PlaceExpression,
     Way::PlacePast,
+    Way::SpawnerNone,
+    Way::SpawnerOver,
+    Way::SecondNotZero,
     Way::UnusedNotZero,
 ];
 
-/// Damages a block of 520 bytes at one of the task records 1 to 32 (or the first record, where the way is about it).
-pub fn damage_block(random: &mut Random, block: &mut Vec<u8>, recipe: &Recipe, way: Way, record: usize) {
+/// Damages a whole block at one of the tasks, counted from 1 (or its first record, where the way is about that).
+pub fn damage_block(random: &mut Random, block: &mut Vec<u8>, recipe: &Recipe, way: Way, task: usize) {
     match way {
         Way::Length => {
-            let length = random.pick(&[0, 1, 7, 8, 260, 512, 519, 521, 528, 1040]);
+            let length = random.pick(&[0, 1, 7, 8, 520, 768, 775, 777, 784, 1552]);
             block.resize(length, 0);
         }
-        Way::NoneIssued => put_number(block, 0, 0),
+        Way::NoneIssued => put_issued(block, 0),
         Way::LiveOver => block[2] = random.within(TASKS + 1, 255) as u8,
         Way::ActiveOver => block[3] = random.within(2, 255) as u8,
         Way::ActiveWithoutLive => {
@@ -196,26 +265,43 @@ pub fn damage_block(random: &mut Random, block: &mut Vec<u8>, recipe: &Recipe, w
             block[3] = 1;
         }
         Way::FirstNotZero => block[4 + random.below(4)] = random.within(1, 255) as u8,
-        Way::NumberZero => put_number(block, record, 0),
+        Way::NumberZero => put_number(block, task, 0),
         Way::NumberOver => {
-            let issued = usize::from(number(block, 0));
-            let over = if random.percent(50) { issued + 1 } else { random.within(issued, 65_535) };
-            put_number(block, record, over.min(65_535) as u16);
+            let over = at_least(random, usize::from(issued(block)) + 1);
+            put_number(block, task, over);
         }
         Way::NumberTwice => {
-            let earlier = 8 * random.within(1, record.max(2) - 1);
-            block.copy_within(earlier..earlier + 2, 8 * record);
+            let earlier = task_at(random.within(1, task.max(2) - 1));
+            block.copy_within(earlier..earlier + 2, task_at(task));
         }
-        Way::PlaceZero => put_place(block, record, 0),
+        Way::PlaceZero => put_place(block, task, 0),
         Way::PlaceExpression => {
             let place = recipe.expressions.get(random.below(recipe.expressions.len()));
-            put_place(block, record, place.copied().unwrap_or(0));
+            put_place(block, task, place.copied().unwrap_or(0));
         }
         Way::PlacePast => {
-            let records = recipe.records();
-            let past = if random.percent(50) { records + 1 } else { random.within(records, 65_535) };
-            put_place(block, record, past as u16);
+            let past = at_least(random, recipe.records() + 1);
+            put_place(block, task, past);
         }
-        Way::UnusedNotZero => block[8 * record + random.below(8)] = random.within(1, 255) as u8,
+        // Task 1 has no spawner, and every other one has.
+        Way::SpawnerNone => {
+            let none = u16::from(number(block, task) == 1);
+            put_spawner(block, task, none);
+        }
+        Way::SpawnerOver => {
+            let over = at_least(random, usize::from(number(block, task)));
+            put_spawner(block, task, over);
+        }
+        Way::SecondNotZero => block[second_at(task) + 2 + random.below(2)] = random.within(1, 255) as u8,
+        Way::UnusedNotZero => block[task_at(task) + random.below(TASK)] = random.within(1, 255) as u8,
     }
+}
+
+/// The least or one above it, as far as 16 bits reach.
+fn at_least(random: &mut Random, least: usize) -> u16 {
+    let least = least.min(65_535);
+    if random.percent(50) {
+        return least as u16;
+    }
+    random.within(least, 65_535) as u16
 }

@@ -123,7 +123,7 @@ impl Coverage {
     pub fn is_whole(&self) -> bool {
         START_NUMBERS.iter().all(|number| self.starts.contains_key(number))
             && RUN_NUMBERS.iter().all(|number| self.runs.contains_key(number))
-            && (0..=32).all(|record| self.blocks.contains_key(&record))
+            && (0..=64).all(|record| self.blocks.contains_key(&record))
             && (3..=6).all(|kind| self.lacking.contains_key(&kind))
             && (1..=7).all(|kind| self.records.contains_key(&kind))
             && WHY_NUMBERS.iter().all(|number| self.whys.contains_key(number))

@@ -1,7 +1,7 @@
 //! Random cases: tables, blocks, budgets, logs, chains and batches, that pass and that do not.
 
 use crate::batch::{random_batch, Batch};
-use crate::block::{damage_block, random_block, waiting_block, BLOCK, TASKS, WAYS};
+use crate::block::{damage_block, random_block, variable_at, waiting_block, BLOCK, TASKS, WAYS};
 use crate::case::{is_tame, Call, Case, TAME};
 use crate::damage::{damage_table, odd_length, raw_table};
 use crate::random::Random;
@@ -65,7 +65,7 @@ fn random_table(random: &mut Random, recipe: &Recipe) -> Vec<u8> {
 
 /// What a start writes over.
 fn old_content(random: &mut Random) -> Vec<u8> {
-    let length = if random.percent(97) { BLOCK } else { random.pick(&[0, 1, 8, 512, 519, 521, 1040]) };
+    let length = if random.percent(97) { BLOCK } else { random.pick(&[0, 1, 8, 520, 768, 775, 777, 1552]) };
     random.bytes(length)
 }
 
@@ -76,11 +76,11 @@ fn lent_block(random: &mut Random, recipe: &Recipe, passes: fn(&mut Random, &Rec
         0..85 => {}
         85..97 => {
             let way = random.pick(&WAYS);
-            let record = if random.percent(50) { random.within(1, 4) } else { random.within(1, TASKS) };
-            damage_block(random, &mut block, recipe, way, record);
+            let task = if random.percent(50) { random.within(1, 4) } else { random.within(1, TASKS) };
+            damage_block(random, &mut block, recipe, way, task);
         }
         _ => {
-            let at = random.below(8 * (TASKS + 1));
+            let at = random.below(variable_at(0));
             block[at] = random.word() as u8;
         }
     }

@@ -1,6 +1,7 @@
 //! Makes a case that differs small: each pass tries smaller cases and keeps those that still differ.
 
 use crate::batch::Batch;
+use crate::block::{task_at, BLOCK, TASKS};
 use crate::case::{is_tame, Case, MODEL};
 use recipe_runner::{LENGTH, OUTCOME};
 use std::time::{Duration, Instant};
@@ -136,12 +137,12 @@ impl Shrinker<'_> {
 
     /// Takes tasks out of the block, the later ones moving up, with and without an active one left.
     fn tasks(&mut self) {
-        for (i, idle) in (1..=32).rev().flat_map(|i| [(i, false), (i, true)]) {
+        for (i, idle) in (1..=TASKS).rev().flat_map(|i| [(i, false), (i, true)]) {
             let live = self.best.block.get(2).map_or(0, |live| usize::from(*live));
-            if self.best.block.len() == 520 && (i..=32).contains(&live) {
+            if self.best.block.len() == BLOCK && (i..=TASKS).contains(&live) {
                 self.attempt(|case| {
-                    case.block.copy_within(8 * i + 8..8 * 33, 8 * i);
-                    case.block[8 * 32..8 * 33].fill(0);
+                    case.block.copy_within(task_at(i + 1)..task_at(TASKS + 1), task_at(i));
+                    case.block[task_at(TASKS)..task_at(TASKS + 1)].fill(0);
                     case.block[2] -= 1;
                     case.block[3] &= u8::from(!idle);
                 });
@@ -266,9 +267,9 @@ fn take_out(case: &mut Case, at: usize, count: usize) {
         }
     }
     case.table.drain(8 * at..8 * (at + count));
-    let tasks = case.block.get(2).map_or(0, |live| usize::from(*live).min(32));
+    let tasks = case.block.get(2).map_or(0, |live| usize::from(*live).min(TASKS));
     for task in 1..=tasks {
-        let Some(field) = case.block.get_mut(8 * task + 2..8 * task + 4) else { return };
+        let Some(field) = case.block.get_mut(task_at(task) + 2..task_at(task) + 4) else { return };
         let place = usize::from(u16::from_le_bytes([field[0], field[1]]));
         if !case.fresh && place > at {
             let moved = place.saturating_sub(count).max(at) as u16;

@@ -2,7 +2,7 @@
 //! block.
 
 use crate::batch::Batch;
-use crate::block::TASKS;
+use crate::block::{BLOCK, TASKS};
 use crate::case::Side;
 use crate::generate::CHAIN;
 use crate::recipe::{Recipe, AWAIT, GUARD, IF, QUOTIENT, SET, SKIP, SUSPEND, TWO};
@@ -56,7 +56,7 @@ impl Workload {
     /// Each call begins after some steps from a fresh state.
     fn new(name: &'static str, unit: Unit, recipe: Recipe, warm: u32, budget: u32) -> Workload {
         let table = recipe.table;
-        let mut block = vec![0; 520];
+        let mut block = vec![0; BLOCK];
         assert_eq!(recipe_model::start(&table, &mut block).number, 0, "{name}");
         recipe_model::run(&table, &mut block, warm, &mut vec![0; 8 * STEPS as usize]);
         Workload { name, unit, table, block, budget, batch: Batch::default() }
@@ -64,7 +64,7 @@ impl Workload {
 
     /// Recipes that all pass, checked together or one by one.
     fn of_batch(name: &'static str, unit: Unit, recipes: &[Vec<u8>]) -> Workload {
-        Workload { name, unit, table: Vec::new(), block: vec![0; 520], budget: 0, batch: Batch::of(recipes) }
+        Workload { name, unit, table: Vec::new(), block: vec![0; BLOCK], budget: 0, batch: Batch::of(recipes) }
     }
 
     /// How many units a call has.

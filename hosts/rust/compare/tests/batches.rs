@@ -2,6 +2,7 @@
 //! recipe alone, for the library and for the model; and whole families of batches, the library against the model.
 
 use compare::batch::{damage_batch, list, Batch, WAYS};
+use compare::block::BLOCK;
 use compare::case::{Case, Side, LIBRARY, MODEL};
 use compare::check::Coverage;
 use compare::generate::any_batch;
@@ -19,7 +20,7 @@ fn checked(batch: &Batch, side: &Side) -> (u32, Vec<u8>) {
 
 /// "What start gives for that recipe alone with a block of the right size", of any content, as the space has it.
 fn alone(random: &mut Random, table: &[u8], side: &Side) -> Vec<u8> {
-    let [number, place] = (side.start)(table, &mut random.bytes(520));
+    let [number, place] = (side.start)(table, &mut random.bytes(BLOCK));
     [number.to_le_bytes(), place.to_le_bytes()].concat()
 }
 

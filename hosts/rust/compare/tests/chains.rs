@@ -1,7 +1,7 @@
 //! What request 2.4 says of a stuck state's chain, seen from outside: answers of the library alone, judged by the bytes
 //! of block and table. What these mean is worked out by hand, in `compare::view`; the model has no part in it.
 
-use compare::block::waiting_block;
+use compare::block::{task_at, waiting_block, BLOCK, TASK};
 use compare::generate::{random_case, CHAIN};
 use compare::random::Random;
 use compare::recipe::{Recipe, AWAIT};
@@ -18,9 +18,9 @@ fn numbers(chain: &[u8]) -> Vec<u16> {
     chain.as_chunks().0.iter().map(|pair| u16::from_le_bytes(*pair)).collect()
 }
 
-/// The state record of a live task.
-fn record_of(view: &View, number: u16) -> usize {
-    (1..=view.live()).find(|&record| view.number(record) == number).expect("a live task is named")
+/// Where a live task stands.
+fn standing(view: &View, number: u16) -> usize {
+    (1..=view.live()).find(|&task| view.number(task) == number).expect("a live task is named")
 }
 
 /// Asks why a block is stuck, with an output of old content. The block and the bytes past the numbers are kept.
@@ -40,20 +40,20 @@ fn ask(random: &mut Random, table: &[u8], block: &[u8]) -> (Explained, Vec<u16>)
 fn is_chain(view: &View, numbers: &[u16], end: u32) {
     assert_eq!(numbers[0], view.number(1));
     for pair in numbers.windows(2) {
-        let record = record_of(view, pair[0]);
-        assert!(!view.is_at_guard(record));
-        assert_eq!(view.waits(record), Some(pair[1].into()));
+        let task = standing(view, pair[0]);
+        assert!(!view.is_at_guard(task));
+        assert_eq!(view.waits(task), Some(pair[1].into()));
     }
     let (last, others) = numbers.split_last().expect("the front is named");
     let different: BTreeSet<u16> = others.iter().copied().collect();
     assert_eq!(different.len(), others.len());
     assert_eq!(different.contains(last), end == 1);
-    let record = record_of(view, *last);
-    let awaited = view.waits(record).expect("the last one waits too");
+    let task = standing(view, *last);
+    let awaited = view.waits(task).expect("the last one waits too");
     match end {
         1 => {}
-        2 => assert!(!view.is_at_guard(record) && !view.is_issued(awaited)),
-        3 => assert!(view.is_at_guard(record)),
+        2 => assert!(!view.is_at_guard(task) && !view.is_issued(awaited)),
+        3 => assert!(view.is_at_guard(task)),
         _ => panic!("an end that is none: {end}"),
     }
 }
@@ -91,7 +91,7 @@ fn rotations(block: &[u8]) -> impl Iterator<Item = Vec<u8>> + '_ {
     let live = usize::from(block[2]);
     (0..live).map(move |turns| {
         let mut block = block.to_vec();
-        block[8..8 * live + 8].rotate_left(8 * turns);
+        block[task_at(1)..task_at(live + 1)].rotate_left(TASK * turns);
         block
     })
 }
@@ -141,7 +141,7 @@ fn a_run_that_is_stuck_has_a_chain() {
     let mut counts = Counts::default();
     for recipe in recipes(&mut random, 8_000) {
         let table = &recipe.table;
-        let mut block = vec![0; 520];
+        let mut block = vec![0; BLOCK];
         assert_eq!(start(table, &mut block).number, 0);
         let answer = run(table, &mut block, 2_000, &mut vec![0; 16_000]);
         let (end, count) = holds(&mut random, table, &block);

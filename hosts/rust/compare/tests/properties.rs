@@ -1,6 +1,7 @@
 //! What the demands say, seen from outside: long runs through the library alone, judged by its logs and blocks. What a
 //! block and a table mean is worked out by hand, in `compare::view`; the model has no part in it.
 
+use compare::block::{task_at, BLOCK, TASK};
 use compare::generate::random_case;
 use compare::random::Random;
 use compare::recipe::{Recipe, AWAIT, GUARD, QUOTIENT, SET, SPAWN, SUSPEND};
@@ -16,7 +17,7 @@ const LOGFULL: u32 = 5;
 const NOVALUE: u32 = 24;
 
 fn fresh(table: &[u8]) -> Vec<u8> {
-    let mut block = vec![0; 520];
+    let mut block = vec![0; BLOCK];
     assert_eq!(start(table, &mut block).number, 0);
     block
 }
@@ -121,7 +122,7 @@ fn picks_stay_stuck(random: &mut Random, table: &[u8], mut block: Vec<u8>) {
     for _ in 0..20 {
         let live = usize::from(block[2]);
         let pick = random.within(1, live);
-        block[8 * pick..8 * live + 8].rotate_left(8);
+        block[task_at(pick)..task_at(live + 1)].rotate_left(TASK);
         let answer = run(table, &mut block, u32::MAX, &mut [0; 64]);
         assert_eq!((answer.number, answer.steps), (STUCK, 0));
     }
@@ -292,11 +293,11 @@ fn slices_equal_one_run() {
     }
 }
 
-/// The waiting bound for the task at a state record of an idle moment: if it is ready at every idle moment until its
+/// The waiting bound for a task of an idle moment, by where it stands: if it is ready at every idle moment until its
 /// turn, it is taken up within k × (b + 1) + 1 steps. Gives whether the premise held up to the turn.
-fn bound_holds(table: &[u8], trace: &Trace, from: usize, record: usize) -> bool {
-    let task = View { table, block: &trace.blocks[from] }.number(record);
-    let ahead = record - 1;
+fn bound_holds(table: &[u8], trace: &Trace, from: usize, standing: usize) -> bool {
+    let task = View { table, block: &trace.blocks[from] }.number(standing);
+    let ahead = standing - 1;
     let (mut burst, mut longest) = (0, 0);
     for at in from..trace.records.len() {
         let view = View { table, block: &trace.blocks[at] };
@@ -306,7 +307,7 @@ fn bound_holds(table: &[u8], trace: &Trace, from: usize, record: usize) -> bool 
             continue;
         }
         burst = 0;
-        let own = view.queue().find(|&record| view.number(record) == task).expect("still queued");
+        let own = view.queue().find(|&other| view.number(other) == task).expect("still queued");
         if view.waits(own).is_some() {
             return false;
         }
@@ -332,7 +333,7 @@ fn ready_tasks_are_taken_up_in_time() {
         for from in (0..trace.records.len()).filter(|_| random.percent(15)) {
             let view = View { table, block: &trace.blocks[from] };
             if !view.active() {
-                held += view.queue().filter(|&record| bound_holds(table, &trace, from, record)).count();
+                held += view.queue().filter(|&task| bound_holds(table, &trace, from, task)).count();
             }
         }
     }

@@ -1,5 +1,6 @@
 //! The shrinker, tried on sides that are wrong on purpose.
 
+use compare::block::task_at;
 use compare::case::{compare, Case, Side, LIBRARY, MODEL};
 use compare::generate::random_case;
 use compare::random::Random;
@@ -40,6 +41,30 @@ fn a_wrong_count_shrinks_to_one_turn() {
         assert_eq!(case.calls.len(), 1, "{case}");
         assert_eq!((case.calls[0].budget, case.calls[0].log.len()), (1, 8), "{case}");
         assert!(case.table.len() <= 32, "{case}");
+    }
+}
+
+/// A side that counts a turn as a taking up.
+const TAKES_TURNS_FOR_TAKINGS: Side = Side {
+    run: |table, state, budget, log| {
+        let answer = (MODEL.run)(table, state, budget, log);
+        let written = log.as_chunks::<8>().0.iter().take(answer[2] as usize);
+        for turned in written.filter(|record| record[0] == 5) {
+            let live = 1..=usize::from(state[2]);
+            let tasks = live.map(task_at).filter(|at| state[*at..*at + 2] == turned[2..4]);
+            tasks.collect::<Vec<_>>().into_iter().for_each(|at| state[at + 12] ^= 1);
+        }
+        answer
+    },
+    ..MODEL
+};
+
+#[test]
+fn a_wrong_count_of_takings_shrinks_to_one_turn() {
+    for case in shrunk(&TAKES_TURNS_FOR_TAKINGS, 14) {
+        assert_eq!(case.calls.len(), 1, "{case}");
+        assert_eq!((case.calls[0].budget, case.calls[0].log.len()), (1, 8), "{case}");
+        assert!(case.table.len() <= 32 && case.block[2] <= 2, "{case}");
     }
 }
 

@@ -2,7 +2,10 @@
 //! byte of a table, every small table, every statement over a quotient by 0, and every small queue of tasks that wait.
 
 use compare::batch::Batch;
-use compare::block::{block_of, damage_block, put_number, put_place, put_value, TASKS, WAYS};
+use compare::block::{
+    block_of, damage_block, put_issued, put_number, put_parameter, put_place, put_spawner, put_taken, put_variable,
+    task_at, variable_at, BLOCK, TASKS, WAYS,
+};
 use compare::case::{Call, Case};
 use compare::check::Coverage;
 use compare::generate::CHAIN;
@@ -16,7 +19,7 @@ fn calls(budgets: &[u32]) -> Vec<Call> {
 
 /// Run calls of these budgets from the block that a start leaves.
 fn from_fresh(table: Vec<u8>, budgets: &[u32]) -> Case {
-    Case { fresh: true, ..from_block(&table, vec![1; 520], budgets) }
+    Case { fresh: true, ..from_block(&table, vec![1; BLOCK], budgets) }
 }
 
 /// The same from a lent block.
@@ -55,23 +58,23 @@ fn every_fault_of_a_block_at_every_record() {
     let mut random = Random::new(1);
     let mut coverage = Coverage::default();
     for live in 0..=TASKS {
-        for record in 1..=TASKS {
+        for task in 1..=TASKS {
             for way in WAYS {
                 let issued = random.within(live.max(1), 40) as u16;
                 let active = live > 0 && random.percent(50);
                 let mut block = block_of(&mut random, &recipe, issued, live, active);
-                damage_block(&mut random, &mut block, &recipe, way, record);
+                damage_block(&mut random, &mut block, &recipe, way, task);
                 let case = from_block(&recipe.table, block, &[0, 7]);
-                coverage.check(&case, format_args!("{live} live, {way:?} at {record}"));
+                coverage.check(&case, format_args!("{live} live, {way:?} at task {task}"));
             }
         }
     }
-    assert!((0..=32).all(|record| coverage.blocks.contains_key(&record)), "{coverage}");
+    assert!((0..=64).all(|record| coverage.blocks.contains_key(&record)), "{coverage}");
     assert!(coverage.runs.contains_key(&21), "{coverage}");
 }
 
 #[test]
-fn every_place_and_every_byte_of_the_first_record() {
+fn every_place_and_every_byte_of_the_first_records() {
     let recipe = every_kind();
     let mut random = Random::new(2);
     let mut coverage = Coverage::default();
@@ -85,11 +88,61 @@ fn every_place_and_every_byte_of_the_first_record() {
         put_place(&mut block, 1 + usize::from(place % 3), place);
         check(block, format!("place {place}"));
     }
-    for (at, value) in (0..32).flat_map(|at| (0..=255).map(move |value| (at, value))) {
+    // Of record 0, of the two records of each live task, and of an unused one's.
+    for (at, value) in (0..task_at(5)).flat_map(|at| (0..=255).map(move |value| (at, value))) {
         let mut block = fine.clone();
         block[at] = value;
         check(block, format!("state byte {at} is {value}"));
     }
+    for (at, value) in (task_at(5)..variable_at(0)).flat_map(|at| [1, 128].map(|value| (at, value))) {
+        let mut block = fine.clone();
+        block[at] = value;
+        check(block, format!("state byte {at} is {value}"));
+    }
+}
+
+/// Every spawner of 16 bits, of a task of a great number, of a smaller one, and of task 1.
+#[test]
+fn every_spawner() {
+    let recipe = every_kind();
+    let mut coverage = Coverage::default();
+    let fine = block_of(&mut Random::new(6), &recipe, 50_000, 3, false);
+    for (task, number) in [(1, 40_000), (2, 300), (3, 1)] {
+        for spawner in 0..=u16::MAX {
+            let mut block = fine.clone();
+            for (task, number, spawner) in [(1, 40_000, 7), (2, 300, 299), (3, 1, 0)] {
+                put_number(&mut block, task, number);
+                put_spawner(&mut block, task, spawner);
+            }
+            put_spawner(&mut block, task, spawner);
+            coverage.check(&from_block(&recipe.table, block, &[2]), format_args!("{spawner} spawned {number}"));
+        }
+    }
+    // From 1 to one below its own number, and 0 of task 1 alone.
+    let faults: Vec<u64> = [2, 4, 6].map(|record| coverage.blocks[&record]).to_vec();
+    assert_eq!(faults, [65_536 - 39_999, 65_536 - 299, 65_535], "{coverage}");
+}
+
+/// The times taken up at the ends of their range, of tasks at every place, tried as the front and standing behind it.
+#[test]
+fn every_place_with_times_taken_up() {
+    let recipe = every_kind();
+    let mut random = Random::new(7);
+    let mut coverage = Coverage::default();
+    let mut check = |block: Vec<u8>, origin: String| {
+        coverage.check(&from_block(&recipe.table, block, &[1, 1, 40]), origin);
+    };
+    for (&place, active) in recipe.places.iter().flat_map(|place| [(place, false), (place, true)]) {
+        for times in [0, 1, 255, 256, 65_535, 65_536, 0x7fff_ffff, 0x8000_0000, u32::MAX - 1, u32::MAX] {
+            for task in 1..=3 {
+                let mut block = block_of(&mut random, &recipe, 9, 3, active);
+                put_place(&mut block, task, place);
+                put_taken(&mut block, task, times);
+                check(block, format!("task {task} at place {place}, taken up {times} times"));
+            }
+        }
+    }
+    assert!(coverage.records[&2] > 500 && coverage.records[&5] > 100, "{coverage}");
 }
 
 #[test]
@@ -116,7 +169,7 @@ fn every_length() {
         let case = from_fresh(table, &[50]);
         coverage.check(&case, format_args!("table length {length}"));
     }
-    for length in 0..=600 {
+    for length in 0..=BLOCK + 24 {
         let mut block = block_of(&mut random, &recipe, 5, 3, true);
         block.resize(length, 0);
         let log = random.bytes(length);
@@ -223,7 +276,7 @@ fn every_statement_over_a_quotient() {
                 let mut block = block_of(&mut random, &recipe, issued, live, active);
                 let divisor = random.pick(&[0, 0, 1, -5]);
                 put_place(&mut block, 1, 1);
-                block[12..16].copy_from_slice(&i32::to_le_bytes(divisor));
+                put_parameter(&mut block, 1, divisor);
                 let call = Call { budget, log: random.bytes(length) };
                 let case = Case { calls: vec![call; 2], ..from_block(&recipe.table, block, &[]) };
                 coverage.check(&case, format_args!("kind {kind}, shape {shape}, {live} live, {issued} issued"));
@@ -247,15 +300,16 @@ fn waiters() -> Recipe {
 
 /// A block: the highest number issued, the queue as number, place and parameter, and variable 8.
 fn idle(issued: u16, queue: &[(u16, u16, i32)], variable: i32) -> Vec<u8> {
-    let mut block = vec![0; 520];
-    put_number(&mut block, 0, issued);
+    let mut block = vec![0; BLOCK];
+    put_issued(&mut block, issued);
     block[2] = queue.len() as u8;
     for (i, &(number, place, parameter)) in queue.iter().enumerate() {
         put_number(&mut block, i + 1, number);
         put_place(&mut block, i + 1, place);
-        put_value(&mut block, 8 * i + 12, parameter);
+        put_parameter(&mut block, i + 1, parameter);
+        put_spawner(&mut block, i + 1, number / 2);
     }
-    put_value(&mut block, 264 + 4 * 8, variable);
+    put_variable(&mut block, 8, variable);
     block
 }
 
@@ -305,7 +359,7 @@ fn every_length_of_a_chain() {
     let ready = idle(5, &[(4, 1, 2), (2, 8, 4)], 0);
     let displaced = idle(5, &[(4, 1, 2), (2, 4, 4)], 0);
     let mut coverage = Coverage::default();
-    for length in (0..=150).chain([520, 4_096, 65_536]) {
+    for length in (0..=150).chain([BLOCK, 4_096, 65_536]) {
         for (table, block) in [(&table, &stuck), (&table, &ready), (&table, &displaced)] {
             let case = Case { chain: vec![0xa5; length], ..from_block(table, block.clone(), &[]) };
             coverage.check(&case, format_args!("chain length {length}"));

@@ -123,7 +123,8 @@ impl State {
         Ok(Burst::On)
     }
 
-    /// "The argument is worked out, the next number goes into the variable, the new task joins the back."
+    /// "The argument is worked out, the next number goes into the variable, the new task joins the back": the active task
+    /// is its spawner.
     #[inline]
     fn spawn(&mut self, recipe: &Recipe, task: &mut Task, name: u8, procedure: u8, log: &mut Log) -> Result<(), Stop> {
         let parameter = self.needed_value(recipe, task)?;
@@ -134,7 +135,8 @@ impl State {
         log.write(task.number, Event::Spawned(number))?;
         self.issued = number;
         self.set(task, name, i32::from(number));
-        self.tasks.join(Task { number, place: recipe.entry(procedure), parameter });
+        let place = recipe.entry(procedure);
+        self.tasks.join(Task { number, place, parameter, spawner: task.number, taken: 0 });
         Ok(())
     }
 
@@ -172,14 +174,17 @@ impl State {
         Ok(())
     }
 
-    /// A try of a front that is ready: it "becomes active (past its await, if it stood at one)", or past its guard.
+    /// A try of a front that is ready: it "becomes active (past its await, if it stood at one)", or past its guard, and its
+    /// times taken up are one more.
     #[inline]
     pub fn take_up(&mut self, recipe: &Recipe, log: &mut Log) -> Result<(), Stop> {
         let front = self.tasks.first();
         log.write(front.number, Event::Taken)?;
-        if let Node::Await { next, .. } | Node::Guard { next } = recipe.at(front.place) {
-            self.tasks.set_first(Task { place: next, ..front });
-        }
+        let place = match recipe.at(front.place) {
+            Node::Await { next, .. } | Node::Guard { next } => next,
+            _ => front.place,
+        };
+        self.tasks.set_first(front.taken_up(place));
         self.active = true;
         Ok(())
     }

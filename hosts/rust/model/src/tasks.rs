@@ -3,30 +3,57 @@
 /// The most live tasks.
 pub const TASKS: usize = 32;
 
+/// A record of the state block.
+pub type Record = [u8; 8];
+
 #[derive(Clone, Copy, Debug, Default, PartialEq, Eq)]
 pub struct Task {
     pub number: u16,
     pub place: u16,
     pub parameter: i32,
+    /// The number of the task that spawned it, 0 of task 1.
+    pub spawner: u16,
+    /// The times taken up, "unsigned, staying at the largest value".
+    pub taken: u32,
 }
 
 impl Task {
-    /// "Bytes 0–1 the task number .., bytes 2–3 its place, bytes 4–7 its parameter."
-    pub fn from_record([n0, n1, l0, l1, p0, p1, p2, p3]: [u8; 8]) -> Task {
+    /// "Bytes 0–1 the task number .., bytes 2–3 its place, bytes 4–7 its parameter"; then "bytes 0–1 the spawner's number
+    /// .., bytes 4–7 the times taken up".
+    pub fn from_records(first: Record, second: Record) -> Task {
+        let [n0, n1, l0, l1, p0, p1, p2, p3] = first;
+        let [s0, s1, _, _, t0, t1, t2, t3] = second;
         Task {
             number: u16::from_le_bytes([n0, n1]),
             place: u16::from_le_bytes([l0, l1]),
             parameter: i32::from_le_bytes([p0, p1, p2, p3]),
+            spawner: u16::from_le_bytes([s0, s1]),
+            taken: u32::from_le_bytes([t0, t1, t2, t3]),
         }
     }
 
     /// The same fields, written.
-    pub fn to_record(self) -> [u8; 8] {
+    pub fn to_records(self) -> [Record; 2] {
         let [n0, n1] = self.number.to_le_bytes();
         let [l0, l1] = self.place.to_le_bytes();
         let [p0, p1, p2, p3] = self.parameter.to_le_bytes();
-        [n0, n1, l0, l1, p0, p1, p2, p3]
+        let [s0, s1] = self.spawner.to_le_bytes();
+        let [t0, t1, t2, t3] = self.taken.to_le_bytes();
+        [[n0, n1, l0, l1, p0, p1, p2, p3], [s0, s1, 0, 0, t0, t1, t2, t3]]
     }
+
+    /// A try that succeeds: the task goes on at a place, taken up once more.
+    #[inline]
+    pub fn taken_up(self, place: u16) -> Task {
+        Task { place, taken: self.taken.saturating_add(1), ..self }
+    }
+}
+
+/// Whether a task of this number, which is not 0, may have this second record: "the spawner's number (0 for task 1, else
+/// from 1 to one below its own), bytes 2–3 zero".
+pub fn is_second([s0, s1, zeros @ .., _, _, _, _]: Record, number: u16) -> bool {
+    let spawner = u16::from_le_bytes([s0, s1]);
+    zeros == [0; 2] && spawner < number && (spawner == 0) == (number == 1)
 }
 
 /// A ring: joining the back and leaving the front move no other task.

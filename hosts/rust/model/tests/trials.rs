@@ -1,9 +1,12 @@
-//! The rows "From the trial press", rows for guards, for zero divisors, for the chains of stuck states and for batches of
-//! recipes, and the readings that look natural and are wrong.
+//! The rows "From the trial press", rows for guards, for zero divisors, for the chains of stuck states, for batches of
+//! recipes and for who started a task, and the readings that look natural and are wrong.
 
 use recipe_model::{check_all, print, run, start, why_stuck, Answer, Explained, Started};
 
 type Row = (u8, u8, u16, i32);
+/// The bytes of a state, and where its variables start.
+const STATE: usize = 776;
+const VARIABLES: usize = 520;
 /// A log record: kind, task, valve, value.
 type Line = (u8, u16, u8, i32);
 
@@ -19,7 +22,7 @@ fn table(rows: &[Row]) -> Vec<u8> {
 }
 
 fn fresh(table: &[u8]) -> Vec<u8> {
-    let mut state = vec![0xa5; 520];
+    let mut state = vec![0xa5; STATE];
     assert_eq!(start(table, &mut state), Started { number: 0, place: 0 });
     state
 }
@@ -57,7 +60,7 @@ fn ending(rows: &[Row]) -> (u32, u32) {
 
 /// The refusal of a table.
 fn refusal(rows: &[Row]) -> (u32, u32) {
-    let started = start(&table(rows), &mut [0; 520]);
+    let started = start(&table(rows), &mut [0; STATE]);
     (started.number, started.place)
 }
 
@@ -165,8 +168,10 @@ fn lengths() {
     assert_eq!(refusal(&longest(4_096)), (0, 0));
     assert_eq!(refusal(&longest(4_097)), (11, 0));
     assert_eq!(refusal(&[]), (11, 0));
-    assert_eq!(start(&[1, 0, 0, 0, 0, 0, 0], &mut [0; 520]), Started { number: 11, place: 0 });
-    assert_eq!(start(&table(&A), &mut [0; 519]), Started { number: 21, place: 0 });
+    assert_eq!(start(&[1, 0, 0, 0, 0, 0, 0], &mut [0; STATE]), Started { number: 11, place: 0 });
+    for length in [0, 8, 520, STATE - 1, STATE + 1, STATE + 8] {
+        assert_eq!(start(&table(&A), &mut vec![0; length]), Started { number: 21, place: 0 });
+    }
 }
 
 /// A set whose expression reaches the given depth.
@@ -394,14 +399,9 @@ fn a_missing_value_is_told_after_1_and_before_3_4_and_5() {
     let valve = table(&main_of(&[&around(3, 0, 0, &[&QUOTIENT])]));
     let spawn = table(&main_of(&[&around(6, 9, 0, &[&QUOTIENT])]));
     let full = |issued: u16, live: u16| {
-        let mut state = vec![0; 520];
-        state[..2].copy_from_slice(&issued.to_le_bytes());
-        (state[2], state[3]) = (live as u8, 1);
-        for i in 0..live {
-            let at = 8 * usize::from(i + 1);
-            state[at..at + 2].copy_from_slice(&(issued - i).to_le_bytes());
-            state[at + 2] = 1;
-        }
+        let queue: Vec<_> = (0..live).map(|i| (issued - i, 1, 0)).collect();
+        let mut state = idle(issued, &queue);
+        state[3] = 1;
         state
     };
     for table in [valve, spawn] {
@@ -427,7 +427,7 @@ fn a_run_that_a_zero_divisor_stopped_goes_on_with_another_divisor() {
     assert_eq!(run_from(&table, &mut state, 100), (stopped(0, 0), vec![]));
     assert_eq!(run_from(&table, &mut state, 0).0.number, 1);
     assert_eq!(state, before);
-    state[264 + 4 * 8] = 2;
+    state[VARIABLES + 4 * 8] = 2;
     let finished = Answer { number: 0, steps: 2, records: 2, place: 0 };
     assert_eq!(run_from(&table, &mut state, 100), (finished, vec![(7, 1, 0, 2), (6, 1, 0, 0)]));
 }
@@ -545,15 +545,18 @@ const SHARE: u16 = 6;
 const SHARED: u16 = 11;
 const GIVES_WAY: u16 = 13;
 
-/// A state without an active task: the highest number issued, and the queue as number, place and parameter.
+/// A state without an active task: the highest number issued, and the queue as number, place and parameter. No task was
+/// ever taken up.
 fn idle(issued: u16, queue: &[(u16, u16, i32)]) -> Vec<u8> {
-    let mut state = vec![0; 520];
+    let mut state = vec![0; STATE];
     state[..2].copy_from_slice(&issued.to_le_bytes());
     state[2] = queue.len() as u8;
-    for (record, (number, place, parameter)) in state[8..].chunks_exact_mut(8).zip(queue) {
-        record[..2].copy_from_slice(&number.to_le_bytes());
-        record[2..4].copy_from_slice(&place.to_le_bytes());
-        record[4..].copy_from_slice(&parameter.to_le_bytes());
+    for (records, (number, place, parameter)) in state[8..].chunks_exact_mut(16).zip(queue) {
+        records[..2].copy_from_slice(&number.to_le_bytes());
+        records[2..4].copy_from_slice(&place.to_le_bytes());
+        records[4..8].copy_from_slice(&parameter.to_le_bytes());
+        // Task 1 was spawned by none; another by one below it.
+        records[8..10].copy_from_slice(&(number / 2).to_le_bytes());
     }
     state
 }
@@ -616,7 +619,7 @@ fn the_awaited_variable_is_read_for_the_chain() {
     let queue = [(1, SHARED, 2), (2, SHARED, 1)];
     for (value, expected) in [(1, (vec![1, 1], 1)), (2, (vec![1, 2, 2], 1)), (3, (vec![1], 2))] {
         let mut state = idle(2, &queue);
-        state[264 + 4 * 8] = value;
+        state[VARIABLES + 4 * 8] = value;
         assert_eq!(chain_of(&table(&WAITERS), &state), expected);
     }
 }
@@ -671,7 +674,7 @@ fn states_that_are_not_stuck() {
 fn outputs_of_other_lengths() {
     let waiters = table(&WAITERS);
     let stuck = idle(3, &[(1, OWN, 1)]);
-    for length in [0, 1, 2, 4, 64, 65, 67, 68, 132, 520] {
+    for length in [0, 1, 2, 4, 64, 65, 67, 68, 132, STATE] {
         let mut chain = vec![0xa5; length];
         assert_eq!(why_stuck(&waiters, &stuck, &mut chain), NOT_STUCK, "{length}");
         assert_eq!(chain, vec![0xa5; length]);
@@ -694,7 +697,7 @@ fn refusals_of_a_chain_in_their_order() {
         (&waiters, &stuck[1..], refused(21, 0)),
         (&waiters, &[], refused(21, 0)),
         (&waiters, &none_issued, refused(22, 0)),
-        (&waiters, &displaced, refused(22, 2)),
+        (&waiters, &displaced, refused(22, 3)),
         (&waiters, &finished, NOT_STUCK),
     ];
     for (i, (table, state, expected)) in calls.into_iter().enumerate() {
@@ -865,6 +868,142 @@ fn a_bad_batch_is_told_before_its_recipes_are_looked_at() {
         {
             is_no_batch(&faulty, &lengths, space);
         }
-        is_no_batch(&faulty.repeat(65), &list(&[length; 65]), 520);
+        is_no_batch(&faulty.repeat(65), &list(&[length; 65]), 8 * 65);
+    }
+}
+
+/// The live tasks of a state: number, spawner and times taken up.
+fn tasks(state: &[u8]) -> Vec<(u16, u16, u32)> {
+    let records = state[8..VARIABLES].as_chunks::<16>().0[..usize::from(state[2])].iter();
+    let tasks = records.map(|&[n0, n1, _, _, _, _, _, _, s0, s1, z0, z1, t0, t1, t2, t3]| {
+        assert_eq!((z0, z1), (0, 0));
+        (u16::from_le_bytes([n0, n1]), u16::from_le_bytes([s0, s1]), u32::from_le_bytes([t0, t1, t2, t3]))
+    });
+    tasks.collect()
+}
+
+#[test]
+fn a_fresh_task_has_no_spawner_and_was_not_taken_up() {
+    assert_eq!(tasks(&fresh(&table(&A))), [(1, 0, 0)]);
+}
+
+#[test]
+fn a_spawn_writes_its_spawner_and_a_try_counts() {
+    let table = table(&A);
+    let mut state = fresh(&table);
+    let mut steps = Vec::new();
+    while run_from(&table, &mut state, 1).0.number == 1 {
+        steps.push(tasks(&state));
+    }
+    // Spawned; main waits, behind task 2; task 2 is taken up, sets its valve and ends; main is taken up and sets its valve.
+    let main = |taken| vec![(1, 0, taken)];
+    let both = vec![(1, 0, 0), (2, 1, 0)];
+    let taken = [vec![(2, 1, 1), (1, 0, 0)], vec![(2, 1, 1), (1, 0, 0)]];
+    let expected = [&[both, vec![(2, 1, 0), (1, 0, 0)]], &taken[..], &[main(0), main(1), main(1)]].concat();
+    assert_eq!(steps, expected);
+}
+
+#[test]
+fn a_turn_is_no_taking_up() {
+    // Main waits for task 2, which gives way for ever: every second try takes task 2 up.
+    let rows = [
+        (1, 0, 3, 0),
+        (6, 8, 1, 1),
+        (9, 0, 0, 0),
+        (8, 8, 0, 0),
+        (1, 0, 3, 0),
+        (5, 0, 2, 0),
+        (9, 0, 0, 1),
+        (7, 0, 0, 0),
+    ];
+    let table = table(&rows);
+    let mut state = fresh(&table);
+    let (answer, lines) = run_from(&table, &mut state, 2_000);
+    assert_eq!(answer.number, 1);
+    let count = |kind, task| lines.iter().filter(|line| line.0 == kind && line.1 == task).count() as u32;
+    assert!(count(5, 1) > 400 && count(2, 1) == 0);
+    let mut live = tasks(&state);
+    live.sort();
+    assert_eq!(live, [(1, 0, 0), (2, 1, count(2, 2))]);
+}
+
+#[test]
+fn a_task_that_a_spawned_one_spawns_is_its_own() {
+    // Main spawns task 2, which spawns task 3, which spawns task 4; main ends in between.
+    let rows = [(1, 0, 2, 0), (6, 8, 1, 1), (9, 0, 0, 0), (1, 0, 3, 0), (6, 8, 1, 1), (9, 0, 0, 0), (7, 0, 0, 0)];
+    let table = table(&rows);
+    let mut state = fresh(&table);
+    run_from(&table, &mut state, 7);
+    // Spawner 1 is not live, and need not be.
+    assert_eq!(tasks(&state), [(3, 2, 1), (2, 1, 1), (4, 3, 0)]);
+}
+
+#[test]
+fn the_times_taken_up_stay_at_the_largest_value() {
+    let waiters = table(&WAITERS);
+    for (place, parameter) in [(GIVES_WAY, 0), (OWN, 2), (GUARD, 1), (14, 0)] {
+        for (before, after) in [(0, 1), (255, 256), (u32::MAX - 1, u32::MAX), (u32::MAX, u32::MAX)] {
+            let mut state = idle(9, &[(5, place, parameter), (6, GUARD, 0)]);
+            state[20..24].copy_from_slice(&before.to_le_bytes());
+            assert_eq!(run_from(&waiters, &mut state, 1).1, [(2, 5, 0, 0)]);
+            assert_eq!(tasks(&state), [(5, 2, after), (6, 3, 0)], "{place} {before}");
+        }
+    }
+}
+
+/// The state record that a state of tasks 1, 5 and 3 is refused at, with other bytes at an index; 0 where it passes.
+fn refused_at(at: usize, bytes: &[u8]) -> u32 {
+    let mut state = idle(9, &[(1, GIVES_WAY, 0), (5, GIVES_WAY, 0), (3, GIVES_WAY, 0)]);
+    state[at..at + bytes.len()].copy_from_slice(bytes);
+    let before = state.clone();
+    let (answer, _) = run_from(&table(&WAITERS), &mut state, 0);
+    if answer.number == 1 {
+        return 0;
+    }
+    assert_eq!((answer.number, answer.steps, answer.records), (22, 0, 0));
+    assert_eq!(state, before);
+    answer.place
+}
+
+#[test]
+fn a_spawner_is_below_its_task() {
+    // The second records of tasks 1, 5 and 3 are the state records 2, 4 and 6.
+    let spawners =
+        |record: usize| [0, 1, 2, 3, 4, 5, 6, 256, 258, 65_535_u16].map(|s| refused_at(8 * record, &s.to_le_bytes()));
+    assert_eq!(spawners(2), [0, 2, 2, 2, 2, 2, 2, 2, 2, 2]);
+    assert_eq!(spawners(4), [4, 0, 0, 0, 0, 4, 4, 4, 4, 4]);
+    assert_eq!(spawners(6), [6, 0, 0, 6, 6, 6, 6, 6, 6, 6]);
+    for record in [2, 4, 6] {
+        for byte in [2, 3] {
+            assert_eq!(refused_at(8 * record + byte, &[1]), record as u32);
+        }
+        assert_eq!(refused_at(8 * record + 4, &[255; 4]), 0);
+    }
+    for byte in 56..VARIABLES {
+        assert_eq!(refused_at(byte, &[1]), byte as u32 / 8);
+    }
+}
+
+#[test]
+fn a_first_record_is_at_fault_before_a_second() {
+    // Places 0 and spawners that are none: of a task the first record decides, and both before the next task's.
+    let faulty = |records: &[usize]| {
+        let mut state = idle(9, &[(7, GIVES_WAY, 0), (5, GIVES_WAY, 0), (3, GIVES_WAY, 0)]);
+        for record in records {
+            state[8 * record + 2] = if record % 2 == 1 { 0 } else { 1 };
+        }
+        run_from(&table(&WAITERS), &mut state, 9).0.place
+    };
+    assert_eq!([faulty(&[1, 2]), faulty(&[2, 3]), faulty(&[3, 4]), faulty(&[4, 5]), faulty(&[6])], [1, 2, 3, 4, 6]);
+}
+
+#[test]
+fn a_state_of_another_size_is_refused() {
+    let table = table(&A);
+    for length in [0, 519, 520, 521, 768, 775, 777, 784] {
+        let mut state = fresh(&table);
+        state.resize(length, 0);
+        let refused = Answer { number: 21, steps: 0, records: 0, place: 0 };
+        assert_eq!(run_from(&table, &mut state, 9), (refused, vec![]), "{length}");
     }
 }

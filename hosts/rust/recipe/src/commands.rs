@@ -8,13 +8,13 @@ use recipe_runner::{records, Chain, Ending, Ran, Record, Refusal, State, RECORD,
 
 use crate::args::{Given, Options};
 use crate::course::Course;
-use crate::failure::{Failure, UNFINISHED};
+use crate::failure::{Failure, FAULT, UNFINISHED};
 use crate::files::{self, Loaded, Source};
 use crate::picture::{self, Heading};
 use crate::table::describe_lacking;
 use crate::timeline::Timeline;
 use crate::words::quoted;
-use crate::{asm, check, help, listing, raw, why};
+use crate::{asm, check, help, listing, raw, state, why};
 
 /// The budget of a run, unless given.
 const BUDGET: u32 = 10_000;
@@ -34,6 +34,7 @@ const RUN: Options = Options {
     flags: &["--quiet", "--strict"],
 };
 const WHY: Options = Options { command: "why", files: &["TABLE", "STATE"], valued: &[], flags: &[] };
+const STATE_OF: Options = Options { command: "state", files: &["FILE"], valued: &[], flags: &[] };
 const TIMELINE: Options =
     Options { command: "timeline", files: &["FILE"], valued: &["--budget", "--log", "-o"], flags: &[] };
 
@@ -54,6 +55,7 @@ pub fn dispatch(arguments: &[OsString]) -> Result<u8, Failure> {
         "check" => check(&CHECK.read(rest)?),
         "run" => run(&RUN.read(rest)?),
         "why" => why(&WHY.read(rest)?),
+        "state" => show_state(&STATE_OF.read(rest)?),
         "timeline" => timeline(&TIMELINE.read(rest)?),
         "--help" | "-h" => print(help::TOOL),
         "help" => help(rest),
@@ -76,6 +78,10 @@ fn unknown(command: &str) -> Failure {
 fn print(text: &str) -> Result<u8, Failure> {
     files::write(None, text.as_bytes())?;
     Ok(0)
+}
+
+fn print_lines(lines: &[String]) -> Result<u8, Failure> {
+    print(&lines.iter().map(|line| format!("{line}\n")).collect::<String>())
 }
 
 fn asm(given: &Given) -> Result<u8, Failure> {
@@ -149,14 +155,19 @@ fn run(given: &Given) -> Result<u8, Failure> {
             let strict = given.flag("--strict") && ran.ending != Ending::Finished;
             Ok(if strict { UNFINISHED } else { 0 })
         }
-        Err(refusal) => Err(printed_refusal(&loaded, refusal)),
+        Err(refusal) => Err(refused(&loaded, refusal)),
     }
 }
 
-/// Prints a refusal as the library gives it; the failure has it in words.
-fn printed_refusal(Loaded { name, table, .. }: &Loaded, refusal: Refusal) -> Failure {
+/// Prints the refusal of a table or of its state; the failure has it in words.
+fn refused(Loaded { name, table, .. }: &Loaded, refusal: Refusal) -> Failure {
+    printed_refusal(refusal, Failure::refused(name, table, refusal))
+}
+
+/// Prints a refusal as the library gives it; gives the failure that has it in words.
+fn printed_refusal(refusal: Refusal, failure: Failure) -> Failure {
     match show([].into_iter(), &refusal.to_string()) {
-        Ok(()) => Failure::refused(name, table, refusal),
+        Ok(()) => failure,
         Err(error) => files::printed(&error),
     }
 }
@@ -201,11 +212,8 @@ fn why(given: &Given) -> Result<u8, Failure> {
     let loaded = files::load(given.input().as_deref())?;
     let block = files::read(Some(state), STATE)?;
     match explained(&loaded.table, &block) {
-        Ok((state, chain)) => {
-            let lines: String = why::lines(&loaded, &state, &chain).iter().map(|line| format!("{line}\n")).collect();
-            print(&lines)
-        }
-        Err(refusal) => Err(printed_refusal(&loaded, refusal)),
+        Ok((state, chain)) => print_lines(&why::lines(&loaded, &state, &chain)),
+        Err(refusal) => Err(refused(&loaded, refusal)),
     }
 }
 
@@ -215,6 +223,18 @@ fn explained(table: &[u8], block: &[u8]) -> Result<(State, Chain), Refusal> {
     let state = State::from_bytes(block)?;
     let chain = state.why_stuck(table)?;
     Ok((state, chain))
+}
+
+fn show_state(given: &Given) -> Result<u8, Failure> {
+    let input = given.input();
+    let block = files::read(input.as_deref(), STATE)?;
+    match state::read(&block) {
+        Ok(state) => print_lines(&state::lines(&state)),
+        Err(fault) => {
+            let failure = Failure::new(FAULT, format!("{}: {}", files::shown(input.as_deref()), fault.told()));
+            Err(printed_refusal(fault.refusal, failure))
+        }
+    }
 }
 
 /// Prints a line for each record and a last one.

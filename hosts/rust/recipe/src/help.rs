@@ -8,13 +8,15 @@ pub fn of(command: &str) -> Option<&'static str> {
         "check" => CHECK,
         "run" => RUN,
         "why" => WHY,
+        "state" => STATE,
         "timeline" => TIMELINE,
         _ => return None,
     })
 }
 
 pub const TOOL: &str = "\
-recipe: assembles, lists, checks, runs and draws recipes of the press controller
+recipe: assembles, lists, checks, runs and draws recipes of the press controller,
+and shows saved states
 
 usage: recipe SUBCOMMAND [FILE...] [OPTIONS]
 
@@ -23,12 +25,13 @@ usage: recipe SUBCOMMAND [FILE...] [OPTIONS]
   check     whether tables are accepted, with their counts or their faults
   run       runs a recipe and prints its log and ending
   why       who waits for whom in the saved state of a run that is stuck
+  state     a saved state: who started each task, how often it was taken up
   timeline  draws a run as an SVG picture
 
 FILE may be left out or \"-\" for standard input. A name that ends in \".recipe\"
 is text and is assembled first; any other file, and standard input, is a table
-(for asm always text). check takes any number of files, why takes two, a TABLE
-and a STATE. \"recipe SUBCOMMAND --help\" tells more.
+(for asm always text, for state a saved state). check takes any number of files,
+why takes two, a TABLE and a STATE. \"recipe SUBCOMMAND --help\" tells more.
 
 exit status: 0 all went well
              1 the input is refused or at fault
@@ -119,7 +122,7 @@ of \"stuck\" who waits for whom, as \"recipe why\" does.
   --budget N        the most steps, 0 to 4294967295 (10000)
   --log RECORDS     the log's room, 0 to 16777216 records (4096)
   --resume STATE    begins with the state saved in this file
-  --save STATE      writes the state after the call, 520 bytes
+  --save STATE      writes the state after the call, 776 bytes
   --quiet           leaves the log records out
   --strict          exit status 3 if the ending is not \"finished\"
 
@@ -152,14 +155,46 @@ A state that is not stuck is refused (exit status 1). A refused table or state
 is told as by \"recipe run --resume\".
 ";
 
+const STATE: &str = "\
+usage: recipe state [FILE]
+
+Prints the saved state in FILE, which \"recipe run --save\" or a host wrote: the
+highest task number issued, the live tasks, and the variables that are not 0.
+
+    highest number issued 3, 3 tasks live, one active
+
+             task  place  parameter  starter  times taken up
+    active      3     13          2        2               1
+    queue 1     2     10          1        1               1
+    queue 2     1      3          0     none               0
+
+    variables that are not 0
+    valve1      5
+    variable 8  2
+    variable 9  3
+
+The active task comes first, then the ready queue from its front. The place is
+the record of the task's next statement, or the one after its procedure's last.
+The starter is the task whose spawn started it, which may have ended; none
+started task 1. The times taken up are how often the task became active from the
+queue's front: being turned does not count. They stay at the largest value, which
+is shown as \"4294967295 or more\".
+
+A file of another size is refused with 21, and one that breaks a rule with 22 at
+the state record at fault (exit status 1). Which places the recipe's table has is
+not asked here: \"recipe run --resume\" does.
+";
+
 const TIMELINE: &str = "\
 usage: recipe timeline [FILE] [OPTIONS]
 
 Runs a table, or text whose name ends in \".recipe\", and draws what each task
 does as an SVG picture: a lane for each task, time from left to right in log
-records. A wait is drawn with the number awaited, or as one at a guard. Of a run
-that is stuck, each task's lane ends in what it waits for. A sign marks the task
-that a missing value stopped.
+records. An arrow leads from each spawn to the task that it starts; a lane's
+label has the starter below it, and as its tip the times taken up. A wait is
+drawn with the number awaited, or as one at a guard. Of a run that is stuck, each
+task's lane ends in what it waits for. A sign marks the task that a missing value
+stopped.
 
   --budget N        the most steps, 0 to 4294967295 (10000)
   --log RECORDS     the log's room, 0 to 65536 records (4096)

@@ -1,4 +1,4 @@
-//! The recipe tool: assembles, lists, checks, runs and draws recipes of the press controller.
+//! The recipe tool: assembles, lists, checks, runs and draws recipes of the press controller, and shows saved states.
 //!
 //! A recipe has two notations: the table's own, `kind(name,span,value)` ([`raw`]), and a readable one with names and
 //! indentation ([`readable`], listed again by [`listing`]). Every table is held to the library's check.
@@ -20,6 +20,7 @@ pub mod picture;
 pub mod raw;
 pub mod readable;
 pub mod source;
+pub mod state;
 pub mod svg;
 pub mod table;
 pub mod timeline;

@@ -27,6 +27,8 @@ const VALVE: f64 = 4.5;
 const STOP: f64 = 8.0;
 /// The space between a lane and what its task waits for where the run is stuck.
 const HELD: f64 = 6.0;
+/// How far a task's starter stands below its name.
+const STARTER: f64 = 11.0;
 /// The height of a flag with a valve's setting, and of the row it stands in.
 const FLAG: f64 = 13.0;
 const FLAG_ROW: f64 = 15.0;
@@ -39,6 +41,7 @@ text { font-family: 'DejaVu Sans', Verdana, Arial, sans-serif; font-size: 12px; 
 .subtitle, .axis { fill: #5c5c5c }
 .tick { font-size: 10px; fill: #5c5c5c; text-anchor: middle }
 .label { text-anchor: end }
+.starter { font-size: 10px; fill: #2e7d4f; text-anchor: end }
 .note { font-size: 10px; fill: #7a5a12; stroke: #fff; stroke-width: 3px; stroke-linejoin: round; paint-order: stroke }
 .guardnote { fill: #553a80 }
 .flagtext { font-size: 10px; fill: #7b1337 }
@@ -135,7 +138,10 @@ fn background(svg: &mut Svg, plan: &Plan) {
         }
         let label = format!("task {}", row.task);
         let baseline = row.middle + 0.35 * TEXT_SIZE;
-        svg.text("label", (plan::LEFT - 10.0, baseline), &label);
+        svg.text_with_tip("label", (plan::LEFT - 10.0, baseline), &label, &origin(row));
+        if let Some(starter) = row.lane.starter {
+            svg.text("starter", (plan::LEFT - 10.0, baseline + STARTER), &format!("by task {starter}"));
+        }
         if plan.wide {
             svg.text("", (plan.right + 10.0, baseline), &label);
         }
@@ -146,6 +152,12 @@ fn background(svg: &mut Svg, plan: &Plan) {
     }
     let x = plan.x(plan.records as f64);
     svg.line("end", (x, plan.top - 6.0), (x, plan.bottom));
+}
+
+/// Who started a task, and how often it was taken up.
+fn origin(row: &Row) -> String {
+    let started = row.lane.starter.map_or(String::new(), |starter| format!("started by task {starter}, "));
+    format!("task {}: {started}taken up {}", row.task, counted(row.lane.taken_up as usize, "time"))
 }
 
 fn axis(svg: &mut Svg, plan: &Plan) {

@@ -81,9 +81,18 @@ impl Svg {
         self.close("polygon", tip);
     }
 
-    pub fn text(&mut self, class: &str, (x, y): (f64, f64), text: &str) {
+    pub fn text(&mut self, class: &str, at: (f64, f64), text: &str) {
+        self.text_with_tip(class, at, text, "");
+    }
+
+    /// Text with a tip as an element has it.
+    pub fn text_with_tip(&mut self, class: &str, (x, y): (f64, f64), text: &str, tip: &str) {
         let (x, y) = (number(x), number(y));
-        let _ = writeln!(self.body, "<text class=\"{class}\" x=\"{x}\" y=\"{y}\">{}</text>", escape(text));
+        let _ = write!(self.body, "<text class=\"{class}\" x=\"{x}\" y=\"{y}\">{}", escape(text));
+        if !tip.is_empty() {
+            let _ = write!(self.body, "<title>{}</title>", escape(tip));
+        }
+        self.body.push_str("</text>\n");
     }
 
     /// The whole picture. Style and definitions are written as they are.

@@ -55,6 +55,9 @@ pub struct Spawn {
 /// The life of one task.
 #[derive(Clone, Debug, Default, PartialEq)]
 pub struct Lane {
+    /// The task that spawned it; none of the main task.
+    pub starter: Option<u16>,
+    pub taken_up: u32,
     pub bars: Vec<Bar>,
     pub turns: Vec<Turn>,
     pub settings: Vec<Setting>,
@@ -138,7 +141,10 @@ impl Timeline {
         let (at, end) = (begin + 0.5, begin + 1.0);
         let lane = self.lane(task);
         match kind {
-            Kind::Taken => lane.begin(Doing::Burst, begin),
+            Kind::Taken => {
+                lane.taken_up += 1;
+                lane.begin(Doing::Burst, begin);
+            }
             Kind::Gave => lane.begin(Doing::Queued, end),
             Kind::Waits => lane.begin(Doing::Waits(wait), end),
             Kind::Turned => {
@@ -153,7 +159,9 @@ impl Timeline {
             Kind::Spawned => {
                 // A number issued is 1 to 65,535.
                 let spawned = u16::try_from(value).unwrap_or_default();
-                self.lane(spawned).begin(Doing::Queued, at);
+                let lane = self.lane(spawned);
+                lane.starter = Some(task);
+                lane.begin(Doing::Queued, at);
                 self.spawns.push(Spawn { at, spawner: task, spawned });
             }
         }
@@ -193,6 +201,8 @@ mod tests {
         let main = [bar(Doing::Burst, 0.0, 2.0), bar(waits, 2.0, 5.0), bar(Doing::Burst, 5.0, 8.0)];
         assert_eq!(timeline.lanes[&1].bars, main);
         assert_eq!(timeline.lanes[&1].ended, Some(8.0));
+        let starters = [1, 2].map(|task| (timeline.lanes[&task].starter, timeline.lanes[&task].taken_up));
+        assert_eq!(starters, [(None, 1), (Some(1), 1)]);
         assert_eq!(timeline.lanes[&2].bars, [bar(Doing::Queued, 0.5, 2.0), bar(Doing::Burst, 2.0, 5.0)]);
         assert_eq!(timeline.lanes[&2].settings, [Setting { at: 3.5, valve: 1, value: 5 }]);
     }
@@ -232,6 +242,8 @@ mod tests {
             let main = &Timeline::of(&course(&log, Ending::Paused, &[])).lanes[&1];
             assert_eq!(main.bars[1], Bar { doing: Doing::Waits(wait), from: 1.0, to: None });
             assert_eq!(main.turns, [Turn { at: 1.5, wait }]);
+            // A turn is no taking up.
+            assert_eq!(main.taken_up, 0);
         }
     }
 }

@@ -2,9 +2,9 @@
 
 use std::collections::BTreeMap;
 
-use recipe_runner::{Chain, End, State};
+use recipe_runner::{Chain, End, State, Task};
 
-use crate::block::{queue, Task, Wait};
+use crate::block::{wait, Wait};
 use crate::files::{Loaded, Source};
 use crate::raw;
 use crate::table::{decode, kind, Placed, Record, PARAMETER};
@@ -12,7 +12,7 @@ use crate::words::{counted, quoted};
 
 /// A line for each task of a chain: what it waits for, and where.
 pub fn lines(loaded: &Loaded, state: &State, chain: &Chain) -> Vec<String> {
-    let tasks = queue(state).map(|task| (task.number, task)).collect();
+    let tasks = state.queue().map(|task| (task.number, task)).collect();
     let teller = Teller { records: decode(&loaded.table), source: loaded.source.as_ref(), state, tasks };
     // The number that closes a circle has had its line.
     let last = chain.tasks.len().saturating_sub(usize::from(chain.end == End::NamedEarlier));
@@ -38,7 +38,7 @@ impl Teller<'_> {
     /// The line of a task; the one that it waits for, if any, stands at `next` in the chain.
     fn line(&self, number: u16, chain: &Chain, next: usize) -> Option<String> {
         let task = self.tasks.get(&number)?;
-        let holder = match (chain.tasks.get(next), task.wait(&self.records, self.state)?) {
+        let holder = match (chain.tasks.get(next), wait(task, &self.records, self.state)?) {
             (Some(other), _) if *other == number => "for itself".to_string(),
             (Some(other), _) => format!("for task {other}"),
             (None, Wait::Await(awaited)) => format!("for number {awaited}, which was never issued"),

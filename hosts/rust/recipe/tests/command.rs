@@ -6,6 +6,7 @@ use std::fs;
 use std::path::Path;
 
 use common::{directory, recipe, row_a, status, stderr, stdout, BAD, REFUSED, TEXT_A};
+use recipe_runner::{STATE, VARIABLE, VARIABLES_AT};
 
 const A: &str = "\
 spawned 1 0 2
@@ -78,7 +79,7 @@ fn a_guard_passes_once_the_host_has_written_its_variable() {
     fs::write(d.join("held.recipe"), AT_GUARD).unwrap();
     assert_eq!(stdout(&recipe(&d, &["run", "held.recipe", "--save", "state"], b"")), "waits 1 0 0\nstuck 1\n");
     let mut state = fs::read(d.join("state")).unwrap();
-    state[264 + 4 * 8] = 1;
+    state[VARIABLES_AT + 8 * VARIABLE] = 1;
     fs::write(d.join("state"), state).unwrap();
     let resumed = recipe(&d, &["run", "held.recipe", "--resume", "state"], b"");
     assert_eq!(stdout(&resumed), "taken 1 0 0\nended 1 0 0\nfinished 2\n");
@@ -127,7 +128,7 @@ fn a_zero_divisor_holds_a_saved_state_until_its_variable_is_written() {
     assert_eq!(stdout(&recipe(&d, &resume, b"")), "novalue 0\n");
     let mut state = fs::read(d.join("state")).unwrap();
     assert_eq!(state, before);
-    state[264 + 4 * 8] = 2;
+    state[VARIABLES_AT + 8 * VARIABLE] = 2;
     fs::write(d.join("state"), state).unwrap();
     assert_eq!(stdout(&recipe(&d, &resume, b"")), "valve 1 0 3\nended 1 0 0\nfinished 2\n");
 }
@@ -271,7 +272,7 @@ fn exit_statuses() {
 #[test]
 fn help_is_given() {
     let d = directory("help");
-    for command in ["asm", "dis", "check", "run", "why", "timeline"] {
+    for command in ["asm", "dis", "check", "run", "why", "state", "timeline"] {
         for arguments in [&[command, "--help"][..], &[command, "x", "-h"], &["help", command]] {
             let output = recipe(&d, arguments, b"");
             assert_eq!(status(&output), 0);
@@ -315,10 +316,12 @@ fn saved_states_are_checked() {
     let d = directory("saved");
     fs::write(d.join("a.table"), row_a()).unwrap();
     fs::write(d.join("bad.table"), REFUSED).unwrap();
-    fs::write(d.join("short"), [0; 519]).unwrap();
-    fs::write(d.join("zero"), [0; 520]).unwrap();
+    fs::write(d.join("short"), [0; STATE - 1]).unwrap();
+    fs::write(d.join("other"), [0; 520]).unwrap();
+    fs::write(d.join("zero"), [0; STATE]).unwrap();
     for (table, state, printed) in [
         ("a.table", "short", "refused 21 0\n"),
+        ("a.table", "other", "refused 21 0\n"),
         ("a.table", "zero", "refused 22 0\n"),
         ("bad.table", "short", "refused 13 1\n"),
     ] {
@@ -334,7 +337,7 @@ fn sliced(d: &Path, budget: &str, log: &str) -> (Vec<String>, u64, String) {
     let mut output = recipe(d, &arguments, b"");
     loop {
         assert_eq!(status(&output), 0, "{}", stderr(&output));
-        assert_eq!(fs::read(d.join("state")).unwrap().len(), 520);
+        assert_eq!(fs::read(d.join("state")).unwrap().len(), 776);
         let text = stdout(&output);
         let mut records: Vec<String> = text.lines().map(String::from).collect();
         let last = records.pop().unwrap();

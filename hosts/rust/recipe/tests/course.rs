@@ -5,7 +5,7 @@ mod common;
 use common::Generator;
 use recipe::block::Wait;
 use recipe::course::{Course, Seen};
-use recipe_runner::{records, Ending, Kind, State};
+use recipe_runner::{records, Ending, Kind, State, TASK, TASKS_AT};
 
 const TABLES: usize = 2_000;
 const BUDGET: u32 = 500;
@@ -17,7 +17,7 @@ fn waits(seen: &Seen) -> bool {
 
 /// The kind of the statement that the last task of the queue stands at.
 fn last(table: &[u8], state: &State) -> u8 {
-    let task = 8 * usize::from(state.as_bytes()[2]);
+    let task = TASKS_AT + TASK * (usize::from(state.as_bytes()[2]) - 1);
     let place = u16::from_le_bytes([state.as_bytes()[task + 2], state.as_bytes()[task + 3]]);
     table[8 * usize::from(place)]
 }

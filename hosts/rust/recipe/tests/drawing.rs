@@ -5,7 +5,7 @@ mod common;
 use recipe::asm::assemble;
 use recipe::course::Course;
 use recipe::picture::{draw, Heading};
-use recipe::timeline::Timeline;
+use recipe::timeline::{Spawn, Timeline};
 
 const TWO: &str = "procedure main\n  spawn x press 5\n  await x\n  set valve0 1\nprocedure press p\n  set valve1 p\n";
 
@@ -177,14 +177,15 @@ fn boxes(document: &str) -> Vec<(f64, f64, f64, f64, String)> {
         let class = head.split('"').nth(1).unwrap();
         let size = match class {
             "title" => 17.0,
-            "tick" | "note" | "note guardnote" | "flagtext" => 10.0,
+            "tick" | "note" | "note guardnote" | "flagtext" | "starter" => 10.0,
             _ => 12.0,
         };
+        let text = text.split("<title>").next().unwrap();
         let text = text.replace("&lt;", "<").replace("&gt;", ">").replace("&amp;", "&");
         let width = text.chars().count() as f64 * size * 0.6;
         let (x, y) = (attribute(&format!(" {head}"), "x"), attribute(&format!(" {head}"), "y"));
         let left = match class {
-            "label" => x - width,
+            "label" | "starter" => x - width,
             "tick" => x - width / 2.0,
             _ => x,
         };
@@ -245,6 +246,49 @@ fn the_picture_tells_what_happened() {
     }
     let (document, _) = picture(MANY, 10_000);
     assert!(document.contains("turned: "));
+}
+
+/// The middle of the text that a lane is labelled with, at the left.
+fn label(document: &str, task: u16) -> f64 {
+    let boxes = boxes(document);
+    let (_, top, _, bottom, _) = boxes.iter().find(|(.., text)| *text == format!("task {task}")).unwrap();
+    (top + bottom) / 2.0
+}
+
+#[test]
+fn spawns_lead_from_the_starter_to_the_started_task() {
+    for text in [TWO, TWELVE, MANY, GUARDS] {
+        let (document, timeline) = picture(text, 10_000);
+        // The legend has the first arrow.
+        let arrows: Vec<_> = document.split("<line class=\"arrow\"").skip(2).collect();
+        assert_eq!(arrows.len(), timeline.spawns.len());
+        for (arrow, Spawn { at, spawner, spawned }) in arrows.iter().zip(&timeline.spawns) {
+            let (from, to) = (label(&document, *spawner), label(&document, *spawned));
+            assert_eq!(attribute(arrow, "x1"), attribute(arrow, "x2"));
+            assert!((attribute(arrow, "y1") - from).abs() < 3.0 && (attribute(arrow, "y2") - to).abs() < 10.0, "{at}");
+            assert_eq!(timeline.lanes[spawned].starter, Some(*spawner));
+            assert!(document.contains(&format!("task {spawner} spawns task {spawned}")));
+            assert!(document.contains(&format!("task {spawned}: started by task {spawner}, taken up ")));
+        }
+        let named = boxes(&document).into_iter().filter(|(.., text)| text.starts_with("by task "));
+        assert_eq!(named.count(), timeline.spawns.len());
+    }
+}
+
+/// Main spawns task 2, which spawns task 3; task 2 gives way twice and is taken up three times, main never.
+#[test]
+fn a_label_tells_the_starter_and_the_times_taken_up() {
+    let text = "procedure main\n  spawn a work 0\nprocedure work\n  spawn b rest 0\n  suspend\n  suspend\n\
+                procedure rest\n  skip\n";
+    let (document, _) = picture(text, 10_000);
+    for (label, tip) in [
+        ("task 1", "task 1: taken up 0 times"),
+        ("task 2", "task 2: started by task 1, taken up 3 times"),
+        ("task 3", "task 3: started by task 2, taken up 1 time"),
+    ] {
+        assert!(document.contains(&format!(">{label}<title>{tip}</title></text>")), "{document}");
+    }
+    assert!(document.contains(">by task 1</text>") && document.contains(">by task 2</text>"));
 }
 
 /// The words behind the end of the lanes, each with the lane's label.

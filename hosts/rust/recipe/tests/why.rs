@@ -8,7 +8,7 @@ use std::path::Path;
 use common::{directory, recipe, row_a, status, stderr, stdout, table, Generator, Random};
 use recipe::files::Loaded;
 use recipe::why;
-use recipe_runner::{Ending, State};
+use recipe_runner::{Ending, State, STATE, TASK, TASKS_AT, VARIABLE, VARIABLES_AT};
 
 /// Task 3, at the front, waits for task 1; tasks 1 and 2 wait for each other.
 const THIRD: &str = "\
@@ -160,7 +160,7 @@ fn states_that_are_not_stuck_are_refused() {
     refused("t.recipe");
     assert_eq!(saved(&d, "procedure main\n  guard x\n"), "stuck 1");
     let mut state = fs::read(d.join("state")).unwrap();
-    state[264 + 4 * 8] = 1;
+    state[VARIABLES_AT + 8 * VARIABLE] = 1;
     fs::write(d.join("state"), state).unwrap();
     refused("raw.recipe");
 }
@@ -172,17 +172,18 @@ fn refused_tables_and_states_are_told_as_by_a_resumed_run() {
     fs::write(d.join("a.table"), row_a()).unwrap();
     fs::write(d.join("bad.table"), [1, 0, 1, 0, 0, 0, 0, 0, 3, 8, 0, 0, 0, 0, 0, 0]).unwrap();
     fs::write(d.join("bad.recipe"), "procedure main\n  spawn x press 5\n").unwrap();
-    for length in [0, 8, 519, 521, 1_040] {
+    for length in [0, 8, 520, 775, 777, 1_552] {
         fs::write(d.join(format!("{length}")), vec![0; length]).unwrap();
     }
-    fs::write(d.join("zero"), [0; 520]).unwrap();
+    fs::write(d.join("zero"), [0; STATE]).unwrap();
     for (table, state, printed) in [
-        ("bad.table", "519", "refused 13 1\n"),
+        ("bad.table", "775", "refused 13 1\n"),
         ("a.table", "0", "refused 21 0\n"),
         ("a.table", "8", "refused 21 0\n"),
-        ("a.table", "519", "refused 21 0\n"),
-        ("a.table", "521", "refused 21 0\n"),
-        ("a.table", "1040", "refused 21 0\n"),
+        ("a.table", "520", "refused 21 0\n"),
+        ("a.table", "775", "refused 21 0\n"),
+        ("a.table", "777", "refused 21 0\n"),
+        ("a.table", "1552", "refused 21 0\n"),
         ("a.table", "zero", "refused 22 0\n"),
         ("bad.recipe", "zero", ""),
     ] {
@@ -222,14 +223,14 @@ fn link(line: &str) -> (u16, &str, &str) {
 }
 
 /// What a queued task waits for and where, from the bytes of the state and the table.
-fn waiting(table: &[u8], state: &[u8; 520], number: u16) -> (Option<i32>, String) {
-    let task = state[8..264].chunks_exact(8).find(|task| task[..2] == number.to_le_bytes()).unwrap();
+fn waiting(table: &[u8], state: &[u8; STATE], number: u16) -> (Option<i32>, String) {
+    let task = state[TASKS_AT..VARIABLES_AT].chunks_exact(TASK).find(|task| task[..2] == number.to_le_bytes()).unwrap();
     let place = u16::from_le_bytes([task[2], task[3]]);
     let record = &table[8 * usize::from(place)..][..8];
-    let at = 264 + 4 * usize::from(record[1]);
+    let at = VARIABLES_AT + VARIABLE * usize::from(record[1]);
     match record[..2] {
         [13, _] => (None, place.to_string()),
-        [8, 64] => (Some(i32::from_le_bytes(task[4..].try_into().unwrap())), format!("{place}, its parameter")),
+        [8, 64] => (Some(i32::from_le_bytes(task[4..8].try_into().unwrap())), format!("{place}, its parameter")),
         [8, name] => {
             (Some(i32::from_le_bytes(state[at..at + 4].try_into().unwrap())), format!("{place}, variable {name}"))
         }
@@ -309,8 +310,9 @@ fn crowd(random: &mut Random) -> State {
         let place = 1 + random.below(66) as u16;
         block.extend([number.to_le_bytes(), place.to_le_bytes()].concat());
         block.extend(parameter.to_le_bytes());
+        block.extend([(number / 2).to_le_bytes(), [0; 2], [9; 2], [0; 2]].concat());
     }
-    block.resize(264, 0);
+    block.resize(VARIABLES_AT, 0);
     block.extend(values[..64].iter().flat_map(|value| value.to_le_bytes()));
     State::from_bytes(&block).unwrap()
 }

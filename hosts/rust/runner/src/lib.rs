@@ -1,15 +1,24 @@
 //! A safe wrapper of the recipe runner.
 //!
 //! A recipe is a table of 8-byte records. [`State::start`] checks it and gives a fresh state; [`State::run`] makes steps
-//! from there and writes a log; [`State::why_stuck`] tells who waits for whom where a run is stuck. [`check`] checks many
-//! recipes in one call. Nothing here panics, and a refused call changes neither state nor log.
+//! from there and writes a log; [`State::why_stuck`] tells who waits for whom where a run is stuck. [`State::tasks`] has
+//! the live tasks, each with who started it and how often it was taken up. [`check`] checks many recipes in one call.
+//! Nothing here panics, and a refused call changes neither state nor log.
 
 use std::fmt;
 
 /// The bytes of a table record and of a log record.
 pub const RECORD: usize = 8;
 /// The bytes of a state block.
-pub const STATE: usize = 520;
+pub const STATE: usize = 776;
+/// The most live tasks of a state.
+pub const TASKS: usize = 32;
+/// The first byte of a state block's tasks, and the bytes of each: two records.
+pub const TASKS_AT: usize = RECORD;
+pub const TASK: usize = 2 * RECORD;
+/// The first byte of a state block's variables 0 to 63, and the bytes of each: little-endian, of any content.
+pub const VARIABLES_AT: usize = TASKS_AT + TASKS * TASK;
+pub const VARIABLE: usize = 4;
 /// The most bytes of a table.
 pub const TABLE: usize = 32_768;
 /// The most recipes of a batch.
@@ -203,7 +212,7 @@ impl Refusal {
             15 => "the value is not 0 where unused, or a spawn's is outside 0 to 255",
             16 => "the depth is over 16",
             17 => "the spawn names no procedure of the table",
-            21 => "the state is not of 520 bytes",
+            21 => "the state is not of 776 bytes",
             22 => "the state's record breaks a rule, or its place is none",
             23 => "there are more live tasks than numbers issued",
             25 => "the state is not stuck",
@@ -260,7 +269,36 @@ pub struct Chain {
     pub end: End,
 }
 
-/// The state of a recipe's run: a block of 520 bytes.
+/// A live task.
+#[derive(Clone, Copy, Debug, PartialEq, Eq)]
+pub struct Task {
+    pub number: u16,
+    /// The table's record of its next statement, or the one after its procedure's last.
+    pub place: u16,
+    pub parameter: i32,
+    /// The task whose spawn started it, which may have ended; none started task 1.
+    pub spawner: Option<u16>,
+    /// The times taken up: how often it became active from the queue's front. Being turned does not count. They stay at
+    /// the largest value.
+    pub taken_up: u32,
+}
+
+impl Task {
+    fn read(bytes: &[u8]) -> Option<Task> {
+        let [n0, n1, l0, l1, p0, p1, p2, p3, s0, s1, _, _, t0, t1, t2, t3] = bytes.try_into().ok()?;
+        Some(Task {
+            number: u16::from_le_bytes([n0, n1]),
+            place: u16::from_le_bytes([l0, l1]),
+            parameter: i32::from_le_bytes([p0, p1, p2, p3]),
+            spawner: Some(u16::from_le_bytes([s0, s1])).filter(|spawner| *spawner != 0),
+            taken_up: u32::from_le_bytes([t0, t1, t2, t3]),
+        })
+    }
+}
+
+/// The state of a recipe's run: a block of [`STATE`] bytes.
+///
+/// What it tells of tasks and variables is what its bytes say: of a saved one, they are checked by the next run.
 #[derive(Clone, Debug, PartialEq, Eq)]
 pub struct State {
     block: [u8; STATE],
@@ -287,6 +325,41 @@ impl State {
     /// The bytes to save.
     pub fn as_bytes(&self) -> &[u8; STATE] {
         &self.block
+    }
+
+    /// The highest task number issued.
+    pub fn issued(&self) -> u16 {
+        let [i0, i1, ..] = self.block;
+        u16::from_le_bytes([i0, i1])
+    }
+
+    /// The live tasks: the active one if any, then the ready queue from its front.
+    pub fn tasks(&self) -> impl Iterator<Item = Task> + '_ {
+        let [_, _, live, ..] = self.block;
+        self.block[TASKS_AT..VARIABLES_AT].chunks_exact(TASK).take(live.into()).filter_map(Task::read)
+    }
+
+    /// The active task.
+    pub fn active(&self) -> Option<Task> {
+        self.tasks().take(self.actives()).next()
+    }
+
+    /// The queued tasks, from the front.
+    pub fn queue(&self) -> impl Iterator<Item = Task> + '_ {
+        self.tasks().skip(self.actives())
+    }
+
+    /// How many tasks are active: one or none.
+    fn actives(&self) -> usize {
+        let [_, _, _, active, ..] = self.block;
+        usize::from(active != 0)
+    }
+
+    /// The values of variables 0 to 63.
+    pub fn variables(&self) -> impl Iterator<Item = i32> + '_ {
+        self.block[VARIABLES_AT..]
+            .chunks_exact(VARIABLE)
+            .filter_map(|value| Some(i32::from_le_bytes(value.try_into().ok()?)))
     }
 
     /// Makes steps, as many as the budget at most.
@@ -438,7 +511,7 @@ mod tests {
     /// What a host with a sensor makes of a state between two calls.
     fn with_variable_8(state: &State, value: u8) -> State {
         let mut block = *state.as_bytes();
-        block[264 + 4 * 8] = value;
+        block[VARIABLES_AT + 8 * VARIABLE] = value;
         State::from_bytes(&block).unwrap()
     }
 
@@ -503,6 +576,59 @@ mod tests {
     }
 
     #[test]
+    fn tasks_tell_who_started_them_and_how_often_they_were_taken_up() {
+        let table = A.concat();
+        let mut state = State::start(&table).unwrap();
+        let main = |place, taken_up| Task { number: 1, place, parameter: 0, spawner: None, taken_up };
+        let press = |place, taken_up| Task { number: 2, place, parameter: 5, spawner: Some(1), taken_up };
+        let mut seen = Vec::new();
+        for _ in 0..6 {
+            seen.push((state.active(), state.queue().collect::<Vec<_>>()));
+            assert!(state.tasks().eq(state.active().into_iter().chain(state.queue())));
+            state.run(&table, 1, &mut [0; 8]).unwrap();
+        }
+        let due = [
+            (Some(main(1, 0)), vec![]),
+            (Some(main(3, 0)), vec![press(7, 0)]),
+            (None, vec![press(7, 0), main(3, 0)]),
+            (Some(press(7, 1)), vec![main(3, 0)]),
+            (Some(press(9, 1)), vec![main(3, 0)]),
+            (None, vec![main(3, 0)]),
+        ];
+        assert_eq!(seen, due);
+        assert_eq!((state.active(), state.issued()), (Some(main(4, 1)), 2));
+        let mut variables = [0; 64];
+        (variables[1], variables[8]) = (5, 2);
+        assert!(state.variables().eq(variables));
+    }
+
+    #[test]
+    fn a_state_of_any_content_can_be_read() {
+        let state = State::from_bytes(&[255; STATE]).unwrap();
+        let task = Task { number: 65_535, place: 65_535, parameter: -1, spawner: Some(65_535), taken_up: u32::MAX };
+        assert!(state.tasks().eq([task; TASKS]));
+        assert_eq!((state.active(), state.queue().count(), state.issued()), (Some(task), TASKS - 1, 65_535));
+        assert!(state.variables().eq([-1; 64]));
+        let mut block = [0; STATE];
+        block[3] = 1;
+        assert_eq!(State::from_bytes(&block).unwrap().active(), None);
+    }
+
+    #[test]
+    fn damaged_starters_are_refused() {
+        let table = A.concat();
+        let mut state = State::start(&table).unwrap();
+        state.run(&table, 1, &mut [0; 8]).unwrap();
+        let (main, press) = (TASKS_AT + RECORD, TASKS_AT + TASK + RECORD);
+        for (at, byte, record) in [(main, 1, 2), (main + 2, 1, 2), (press, 0, 4), (press, 2, 4), (press + 3, 1, 4)] {
+            let mut block = *state.as_bytes();
+            block[at] = byte;
+            let refused = State::from_bytes(&block).unwrap().run(&table, 1, &mut [0; 8]);
+            assert_eq!(refused, Err(Refusal { number: 22, place: record }), "{at} {byte}");
+        }
+    }
+
+    #[test]
     fn recipes_are_checked_together() {
         let (a, guard) = (A.concat(), GUARD.concat());
         let recipes: [&[u8]; 5] = [&a, &[], &guard, &a[8..], &a];
@@ -517,7 +643,9 @@ mod tests {
     #[test]
     fn refusals_are_told() {
         assert_eq!(State::start(&[]), Err(Refusal { number: 11, place: 0 }));
-        assert_eq!(State::from_bytes(&[0; 519]), Err(Refusal { number: 21, place: 0 }));
+        for length in [0, 519, 520, STATE - 1, STATE + 1] {
+            assert_eq!(State::from_bytes(&vec![0; length]), Err(Refusal { number: 21, place: 0 }));
+        }
         let mut state = State::from_bytes(&[0; STATE]).unwrap();
         let refused = state.run(&A.concat(), 1, &mut []);
         assert_eq!(refused, Err(Refusal { number: 22, place: 0 }));

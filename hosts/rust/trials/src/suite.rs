@@ -16,6 +16,8 @@ mod rows;
 
 mod runs;
 
+mod starters;
+
 mod tables;
 
 mod values;
@@ -98,6 +100,7 @@ pub fn suite(vectors: &[Vector]) -> Vec<Case> {
     orders::sweep(&mut suite);
     blocks::sweep(&mut suite);
     runs::sweep(&mut suite);
+    starters::sweep(&mut suite);
     waits::sweep(&mut suite);
     divisors::sweep(&mut suite);
     chains::sweep(&mut suite);

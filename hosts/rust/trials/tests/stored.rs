@@ -138,7 +138,7 @@ fn every_answer_occurs() {
     assert_eq!(Vec::from_iter(answers.starts), [0, 11, 12, 13, 14, 15, 16, 17, 21]);
     assert_eq!(Vec::from_iter(answers.runs), [0, 1, 2, 3, 4, 5, 11, 12, 13, 14, 15, 16, 17, 21, 22, 24]);
     assert_eq!(Vec::from_iter(answers.records), [1, 2, 3, 4, 5, 6, 7]);
-    assert_eq!(Vec::from_iter(answers.faults), Vec::from_iter(0..=32));
+    assert_eq!(Vec::from_iter(answers.faults), Vec::from_iter(0..=64));
     assert_eq!(Vec::from_iter(answers.lacking), [3, 4, 5, 6]);
     assert_eq!(Vec::from_iter(answers.whys), [0, 11, 12, 13, 14, 15, 16, 17, 21, 22, 25]);
     assert_eq!(Vec::from_iter(answers.ends), [0, 1, 2, 3]);

@@ -5,4 +5,4 @@ use Rattle.state.proofs.State.fresh.Goals as goal
 
 pub returns : goal.returns
 unfolding fresh queue_of tab
-returns c = refl
+returns c = rw c.spawned_by.ensures refl

@@ -7,7 +7,7 @@ use crate::timeline::{Doing, Lane, Timeline};
 
 /// The space around the picture, and where the lanes begin, behind their labels.
 pub const MARGIN: f64 = 20.0;
-pub const LEFT: f64 = 92.0;
+pub const LEFT: f64 = 104.0;
 /// The widest and the smallest record, and the width that the lanes have if those allow it.
 const WIDEST: f64 = 76.0;
 const SMALLEST: f64 = 8.0;

@@ -3,7 +3,7 @@
 use super::orders::faulty;
 use super::rows::{skips, A, B, C, D, E, F};
 use super::Suite;
-use crate::block::log;
+use crate::block::{log, BLOCK};
 use crate::records::{procedure, skip, table, wait, Row};
 
 /// The bytes of an outcome: "one number, then its place, four bytes each".
@@ -186,7 +186,7 @@ fn spaces(suite: &mut Suite) {
     for count in [0, 1, 2, 64] {
         let (recipes, lengths) = (table(&E).repeat(count), list(&vec![8; count]));
         let right = OUTCOME * count;
-        for space in (right.saturating_sub(9)..=right + 9).chain([0, 4 * count, 2 * right, 520, 4_095, 4_096]) {
+        for space in (right.saturating_sub(9)..=right + 9).chain([0, 4 * count, 2 * right, BLOCK, 4_095, 4_096]) {
             suite.check_all(&recipes, &lengths, log(space));
         }
     }

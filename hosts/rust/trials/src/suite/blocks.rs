@@ -2,7 +2,9 @@
 
 use super::rows::{skips, A};
 use super::Suite;
-use crate::block::{block, fresh, log, old, put, put_number, put_place, Task, BLOCK};
+use crate::block::{
+    block, first_record, fresh, log, old, put, put_number, put_place, put_spawner, put_taken, Task, BLOCK,
+};
 use crate::records::{
     constant, guard, one, procedure, read, set, skip, spawn, suspend, table, test, two, wait, Part, IF, WHILE,
 };
@@ -29,8 +31,11 @@ fn fine(live: u16) -> Vec<u8> {
 pub fn sweep(suite: &mut Suite) {
     lengths(suite);
     old_content(suite);
-    first_record(suite);
-    task_records(suite);
+    record_0(suite);
+    first_records(suite);
+    second_records(suite);
+    spawners(suite);
+    times_taken_up(suite);
     equal_numbers(suite);
     unused_records(suite);
     places(suite);
@@ -40,9 +45,9 @@ fn run(suite: &mut Suite, block: Vec<u8>) {
     suite.run(&table(&every_kind()), block, 3, log(17));
 }
 
-/// "State block not 520 bytes."
+/// "State block not 776 bytes."
 fn lengths(suite: &mut Suite) {
-    for length in [0, 1, 7, 8, 16, 256, 264, 512, 519, 520, 521, 527, 528, 1_040, 4_096] {
+    for length in [0, 1, 7, 8, 16, 519, 520, 768, 775, 776, 777, 783, 784, 1_552, 4_096] {
         let mut block = fresh();
         block.resize(length, 0);
         suite.start(&table(&A), old(length));
@@ -55,14 +60,14 @@ fn lengths(suite: &mut Suite) {
 /// "It ignores the block's old content."
 fn old_content(suite: &mut Suite) {
     for content in [vec![0; BLOCK], vec![0xff; BLOCK], fresh(), fine(5), fine(32), log(BLOCK)] {
-        for length in [519, 520] {
+        for length in [BLOCK - 1, BLOCK] {
             suite.start(&table(&every_kind()), content[..length].to_vec());
         }
     }
 }
 
 /// Record 0: the highest number, the live tasks, the active one, and bytes that are zero.
-fn first_record(suite: &mut Suite) {
+fn record_0(suite: &mut Suite) {
     for live in [0, 1, 2, 31, 32] {
         for (at, byte) in [(2, live as u8 + 1), (2, (live as u8).wrapping_sub(1)), (2, 33), (2, 255)] {
             altered(suite, live, at, &[byte]);
@@ -101,31 +106,31 @@ fn altered(suite: &mut Suite, live: u16, at: usize, bytes: &[u8]) {
     run(suite, block);
 }
 
-/// What can be wrong with a task's record: number 0, one above the highest, the greatest, the first task's number (at
-/// fault from the second record on), a place that is index 0, an expression's, or past the table.
+/// What can be wrong with a task's first record: number 0, one above the highest, the greatest, the first task's number (at
+/// fault from the second task on), a place that is index 0, an expression's, or past the table.
 const FAULTS: [fn(&mut [u8], usize); 7] = [
-    |block, record| put_number(block, record, 0),
-    |block, record| put_number(block, record, 41),
-    |block, record| put_number(block, record, 65_535),
-    |block, record| block.copy_within(8..10, 8 * record),
-    |block, record| put_place(block, record, 0),
-    |block, record| put_place(block, record, 6),
-    |block, record| put_place(block, record, 25),
+    |block, task| put_number(block, task, 0),
+    |block, task| put_number(block, task, 41),
+    |block, task| put_number(block, task, 65_535),
+    |block, task| block.copy_within(8..10, 8 * first_record(task)),
+    |block, task| put_place(block, task, 0),
+    |block, task| put_place(block, task, 6),
+    |block, task| put_place(block, task, 25),
 ];
 
-/// Each fault at each record of five; two faults, and a fault before an unused record's; some fault at each record of 32.
-fn task_records(suite: &mut Suite) {
-    for record in 1..=32 {
-        for fault in [FAULTS[record % 3], FAULTS[4 + record % 3]] {
+/// Each fault at each task of five; two faults, and a fault before an unused record's; some fault at each task of 32.
+fn first_records(suite: &mut Suite) {
+    for task in 1..=32 {
+        for fault in [FAULTS[task % 3], FAULTS[4 + task % 3]] {
             let mut block = fine(32);
-            fault(&mut block, record);
+            fault(&mut block, task);
             run(suite, block);
         }
     }
     for fault in FAULTS {
-        for record in 1..=5 {
+        for task in 1..=5 {
             let mut block = fine(5);
-            fault(&mut block, record);
+            fault(&mut block, task);
             run(suite, block);
         }
         for other in FAULTS {
@@ -138,8 +143,78 @@ fn task_records(suite: &mut Suite) {
         }
         let mut block = fine(5);
         fault(&mut block, 3);
-        block[8 * 6] = 1;
+        block[8 * first_record(6)] = 1;
         run(suite, block);
+    }
+}
+
+/// What can be wrong with a task's second record: no spawner, itself, another that is not before it, bytes 2 and 3.
+const SECOND_FAULTS: [fn(&mut [u8], usize); 6] = [
+    |block, task| put_spawner(block, task, 0),
+    |block, task| block.copy_within(8 * first_record(task)..8 * first_record(task) + 2, 8 * first_record(task) + 8),
+    |block, task| put_spawner(block, task, 40),
+    |block, task| put_spawner(block, task, 65_535),
+    |block, task| block[8 * first_record(task) + 10] = 1,
+    |block, task| block[8 * first_record(task) + 11] = 128,
+];
+
+/// Each fault at each task of five and at some of 32; the first record decides before the second, and both before the
+/// next task's.
+fn second_records(suite: &mut Suite) {
+    for task in 1..=32 {
+        let mut block = fine(32);
+        SECOND_FAULTS[task % 6](&mut block, task);
+        run(suite, block);
+    }
+    for second in SECOND_FAULTS {
+        for task in 1..=5 {
+            let mut block = fine(5);
+            second(&mut block, task);
+            run(suite, block);
+        }
+        for first in FAULTS {
+            for (task, other) in [(3, 3), (2, 3), (3, 2), (5, 4)] {
+                let mut block = fine(5);
+                first(&mut block, task);
+                second(&mut block, other);
+                run(suite, block);
+            }
+        }
+        let mut block = fine(5);
+        second(&mut block, 5);
+        put(&mut block, 8 * first_record(6), &[1; 16]);
+        run(suite, block);
+    }
+}
+
+/// "0 for task 1, else from 1 to one below its own": spawners about each task's number, in the first place and in a
+/// later one; the spawner need not be live.
+fn spawners(suite: &mut Suite) {
+    for number in [1, 2, 3, 255, 256, 257, 32_768, 65_534, 65_535_u16] {
+        let least = [0, 1, 2, 255, 256, 511];
+        let about = [number - 1, number, number.saturating_add(1), number / 2, number ^ 0x100, 0x8000, 65_535];
+        for spawner in least.into_iter().chain(about) {
+            for task in [1, 3] {
+                let mut block = fine(3);
+                put(&mut block, 0, &[255, 255]);
+                put_number(&mut block, task, number);
+                put_spawner(&mut block, task, spawner);
+                // Task 3 of the fine ones is where the other number stands.
+                put_number(&mut block, 4 - task, 1_000);
+                run(suite, block);
+            }
+        }
+    }
+}
+
+/// The times taken up are of any content.
+fn times_taken_up(suite: &mut Suite) {
+    for taken in [0, 1, 255, 256, 65_536, 0x7fff_ffff, 0x8000_0000, u32::MAX - 1, u32::MAX] {
+        for live in [1, 2, 32] {
+            let mut block = fine(live);
+            put_taken(&mut block, usize::from(live), taken);
+            run(suite, block);
+        }
     }
 }
 
@@ -169,21 +244,24 @@ fn equal_numbers(suite: &mut Suite) {
     }
 }
 
-/// "Unused ones are all zero": in one byte or another, right after the live tasks, later and last; each record alone.
+/// "Unused ones are all zero": in one byte or another of both records, right after the live tasks, later and last; each
+/// record alone.
 fn unused_records(suite: &mut Suite) {
     for live in [0, 1, 5, 31] {
-        for record in [live + 1, live + 2, 32].into_iter().filter(|record| *record <= 32) {
-            for byte in [0, 1, 2, 7] {
-                altered(suite, live, usize::from(8 * record + byte), &[1 << byte]);
+        for task in [live + 1, live + 2, 32].into_iter().filter(|task| *task <= 32) {
+            for byte in [0, 1, 2, 7, 8, 9, 10, 12, 15] {
+                altered(suite, live, 8 * first_record(task.into()) + byte, &[1 << (byte % 8)]);
             }
         }
     }
-    for record in 1..=32 {
+    for record in 1..=64 {
         altered(suite, 0, 8 * record + record % 8, &[128]);
     }
-    let mut block = fine(3);
-    put(&mut block, 8 * 4, &[1; 16]);
-    run(suite, block);
+    for record in [7, 8] {
+        let mut block = fine(3);
+        put(&mut block, 8 * record, &[1; 16]);
+        run(suite, block);
+    }
     // A task too many for the count, which is right in itself.
     let mut block = fine(4);
     block[2] = 3;

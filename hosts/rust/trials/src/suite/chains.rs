@@ -4,7 +4,7 @@
 use super::orders::{blocks_at_fault, faulty};
 use super::rows::{skips, A, B, C, D, E, F};
 use super::Suite;
-use crate::block::{block, fresh, log, put_number, put_place, Task};
+use crate::block::{block, first_record, fresh, log, put_number, put_place, put_spawner, Task, BLOCK};
 use crate::records::{constant, guard, procedure, read, skip, suspend, table, two, wait, Part, Row};
 
 /// The bytes of a chain: 32 tasks, and the one that closes a circle.
@@ -164,7 +164,7 @@ fn ready(suite: &mut Suite) {
 fn outputs(suite: &mut Suite) {
     let recipe = table(&waiters());
     let long: Vec<u16> = (1..=32).collect();
-    for length in (0..=8).chain(60..=72).chain([130, 132, 520, 4_095, 4_096]) {
+    for length in (0..=8).chain(60..=72).chain([130, 132, BLOCK, 4_095, 4_096]) {
         for tasks in [vec![(1, OWN, 1)], row(&long, (OWN, 1)), vec![(1, OWN, 1), (2, GIVES_WAY, 0)]] {
             suite.why_stuck(&recipe, block(40, false, &tasks, &[]), log(length));
         }
@@ -182,12 +182,13 @@ fn refusals(suite: &mut Suite) {
     let mut tables: Vec<Vec<u8>> = (12..=17).map(|number| table(&procedure(&[wait(8), faulty(number)]))).collect();
     tables.extend([vec![], vec![1; 9], table(&skips(4_097))]);
     let mut blocks = blocks_at_fault();
-    for (record, fault) in (1..=4).flat_map(|record| [(record, 0), (record, 1), (record, 2)]) {
+    for (task, fault) in (1..=4).flat_map(|task| (0..4).map(move |fault| (task, fault))) {
         let mut block = stuck.clone();
         match fault {
-            0 => put_number(&mut block, record, 41),
-            1 => put_place(&mut block, record, 6),
-            _ => block.copy_within(8..10, 8 * record),
+            0 => put_number(&mut block, task, 41),
+            1 => put_place(&mut block, task, 6),
+            2 => put_spawner(&mut block, task, 10),
+            _ => block.copy_within(8..10, 8 * first_record(task)),
         }
         blocks.push(block);
     }

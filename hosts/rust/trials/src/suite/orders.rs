@@ -4,7 +4,7 @@
 use super::rows::{skips, A};
 use super::tables::{deep, holes, under};
 use super::Suite;
-use crate::block::{block, fresh, log, old, put, BLOCK};
+use crate::block::{block, fresh, log, old, put, put_spawner, BLOCK, VARIABLES};
 use crate::records::{
     constant, leaf, node, procedure, read, sample, set, skip, spawn, table, Part, Row, CONSTANT, IF, SET,
 };
@@ -116,16 +116,19 @@ fn table_first(suite: &mut Suite) {
     }
 }
 
-/// Blocks of another length, and with a fault in the first record, in a task's and in an unused one.
+/// Blocks of another length, and with a fault in the first record, in a task's two and in an unused one.
 pub fn blocks_at_fault() -> Vec<Vec<u8>> {
     let mut unused = fresh();
-    put(&mut unused, 263, &[1]);
+    put(&mut unused, VARIABLES - 1, &[1]);
+    let mut spawned = fresh();
+    put_spawner(&mut spawned, 1, 1);
     vec![
         vec![],
-        fresh()[..519].to_vec(),
+        fresh()[..BLOCK - 1].to_vec(),
         [fresh(), vec![0]].concat(),
         block(0, true, &[(1, 1, 0)], &[]),
         block(1, true, &[(1, 0, 0)], &[]),
+        spawned,
         unused,
     ]
 }
