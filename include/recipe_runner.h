@@ -136,8 +136,8 @@ enum recipe_log_kind {
     RECIPE_LOG_SPAWNED = 1, /* value: the new task's number */
     RECIPE_LOG_TAKEN = 2,   /* became active from the ready queue's front */
     RECIPE_LOG_GAVE = 3,    /* yielded by suspend */
-    RECIPE_LOG_WAITS = 4,   /* reached an await; value: the number awaited; or
-                               a guard; value: 0 */
+    RECIPE_LOG_WAITS = 4,   /* reached an await; value: the number awaited, 0
+                               too; or a guard; value: 0 */
     RECIPE_LOG_TURNED = 5,  /* still waits, turned to the ready queue's back;
                                value: the number awaited, 0 at a guard */
     RECIPE_LOG_ENDED = 6,
@@ -150,7 +150,7 @@ enum recipe_end {
                                     again, and the tasks from its first place
                                     on wait in a circle */
     RECIPE_END_NEVER_ISSUED = 2, /* a task that waits for a number never issued,
-                                    which is not written */
+                                    which is not 0; it is not written */
     RECIPE_END_GUARD = 3         /* a task at an untrue guard */
 };
 
@@ -248,6 +248,11 @@ struct recipe_started recipe_start(const uint8_t *table, size_t table_len,
  * RECIPE_STATE_VARIABLES_AT + RECIPE_VARIABLE_BYTES * n on, of any content. A
  * guard is tested anew at each try: a task at one goes on when it is tried with
  * the reading that it waits for, after RECIPE_STUCK too.
+ *
+ * An await is over when its task is tried and the number in the variable is
+ * done: it was issued and its task has ended, or it is 0. So a variable left at
+ * 0, or written so by the host, names no task, and its await passes. Any other
+ * number never issued holds the waiter.
  *
  * A quotient by 0 has no value, nor has an expression with an operand that has
  * none. A set, an if, a while or a spawn that needs it is not done: no variable

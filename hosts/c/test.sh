@@ -114,9 +114,11 @@ finished 8
 exit 0" "$(said "$work/a")"
 
     table "$work/c" 1,0,1,0 8,8,0,0
-    check "row C is stuck" "waits 1 0 0
-stuck 1
-exit 3" "$(said "$work/c")"
+    check "row C: an await of a 0 passes when tried" "waits 1 0 0
+taken 1 0 0
+ended 1 0 0
+finished 3
+exit 0" "$(said "$work/c")"
 
     table "$work/guard" 1,0,6,0 6,8,1,1 9,0,0,3 13,0,3,0 11,4,2,0 9,0,0,2 \
         10,9,0,0 1,0,3,0 7,0,0,0 3,9,1,0 10,64,0,0
@@ -301,6 +303,40 @@ finished 3
 exit 0" "$(said -s "$work/sensor.state" "$work/sensor")"
 }
 
+# Variable 8, awaited, holds a number never issued until the host writes a 0.
+test_optional() {
+    table "$work/never" 1,0,3,0 3,8,1,0 9,0,0,65536 8,8,0,0
+    check "a number never issued is stuck" "waits 1 0 65536
+stuck 2
+exit 3" "$(said -s "$work/never.state" "$work/never")"
+    put "$work/never.state" "$(variable_at 8)" 0 0 0 0
+    check "a 0 written between calls" "taken 1 0 0
+ended 1 0 0
+finished 2
+exit 0" "$(said -s "$work/never.state" "$work/never")"
+
+    # Task 2 is spawned into variable 8 if the number is not 0, and awaited.
+    for wanted in 0 1; do
+        table "$work/optional$wanted" 1,0,7,0 4,0,3,0 9,0,0,$wanted 6,8,1,1 \
+            9,0,0,0 8,8,0,0 3,0,1,0 9,0,0,5 1,0,0,0
+    done
+    check "an optional task that is not wanted" "waits 1 0 0
+taken 1 0 0
+valve 1 0 5
+ended 1 0 0
+finished 5
+exit 0" "$(said "$work/optional0")"
+    check "an optional task that is wanted" "spawned 1 0 2
+waits 1 0 2
+taken 2 0 0
+ended 2 0 0
+taken 1 0 0
+valve 1 0 5
+ended 1 0 0
+finished 8
+exit 0" "$(said "$work/optional1")"
+}
+
 # Valve 1, then valve 0 set to 6 by variable 8, at record 3.
 test_divisor() {
     table "$work/share" 1,0,6,0 3,1,1,0 9,0,0,1 3,0,3,0 11,3,2,0 9,0,0,6 \
@@ -345,7 +381,7 @@ told() {
 # Who waits for whom, of runs that end stuck, and nothing of others.
 test_chains() {
     check "a number never issued is told" \
-        "press: task 1 waits for a number never issued" "$(told "$work/c")"
+        "press: task 1 waits for a number never issued" "$(told "$work/never")"
 
     table "$work/d" 1,0,3,0 3,8,1,0 9,0,0,1 8,8,0,0
     check "a task that waits for itself" "press: task 1 waits for task 1
@@ -359,7 +395,7 @@ press: task 1 waits at an untrue guard" "$(told "$work/behind")"
     check "a guard without a value" "press: task 1 waits at an untrue guard" \
         "$(told "$work/untrue")"
 
-    for file in a guard long_run share late; do
+    for file in a c guard long_run share late; do
         check "no chain where a run is not stuck: $file" 0 \
             "$(told "$work/$file" | grep -c waits)"
     done
@@ -472,6 +508,7 @@ test_starters
 test_damaged_starters
 test_resume
 test_sensor
+test_optional
 test_divisor
 test_chains
 test_circle_behind_a_task

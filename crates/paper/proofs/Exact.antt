@@ -9,7 +9,7 @@ use native.Mathlib.Omega.{arith}
 use lib.Dec.{eqb, leb}
 use lib.IntN.{ℤ, pos, negsuc}
 use lib.ListN.{length, get_or}
-use borrow.Author.Tests.{eq-eqb, le-leb, ltb-true, ltb-false, leb-true, eqb-true}
+use borrow.Author.Tests.{eq-eqb, le-leb, ltb-true, ltb-false, leb-true, eqb-true, eqb-false, ne_eqb}
 use Rattle.rules.specs.Values.{truth, is_true}
 use Rattle.rules.specs.Recipe.{Expr, Stmt, skip, assign, if, while, spawn, suspend, await, guard, Body, fin, ◌▸◌, Recipe, Env, read, write, value}
 use Rattle.rules.specs.Rest.{◌then◌, look}
@@ -18,7 +18,7 @@ use Rattle.rules.specs.Log.{Event, taken, gave, waits, ended}
 use Rattle.rules.specs.Scheduler.{Readiness, ready, waits_for, at_guard, is_ready, no_number, Rules, Stay, on, back, over, Halt, novalue, Act, does, is, count, is_live, readiness, can_go, any_go, Next, finish, jam, bar, goes, try_of, jam_or, stay, next_act, next}
 use Rattle.rules.specs.Steps.{Limits, is_done, valve_of, wait_at, past_at, needing, spawn_at}
 use Rattle.rules.proofs.Verdicts.{not_true}
-use Rattle.paper.specs.Paper.{PaperTask, Queue, task, PaperState, running, idle, env, memory, WhileStep, skip_step, assign_step, if_true, if_false, while_true, while_false, Any, here, there, InDom, Done, NotWaiting, Schedulable, simple, wait_over, guard_true, Rule, local, spawn_start, return, yield_suspend, yield_await, yield_guard, schedule_simple, schedule_await, schedule_guard, rotate_await, rotate_guard, Finished, finished, Stuck, stuck, needs, Lacking, lacking, Barred, limited, no_value}
+use Rattle.paper.specs.Paper.{PaperTask, Queue, task, PaperState, running, idle, env, memory, WhileStep, skip_step, assign_step, if_true, if_false, while_true, while_false, Any, here, there, InDom, Done, zero_done, issued_done, NotWaiting, Schedulable, simple, wait_over, guard_true, Rule, local, spawn_start, return, yield_suspend, yield_await, yield_guard, schedule_simple, schedule_await, schedule_guard, rotate_await, rotate_guard, Finished, finished, Stuck, stuck, needs, Lacking, lacking, Barred, limited, no_value}
 use Rattle.paper.specs.Follows.{keeping_none, statements}
 
 -- ---- an await in front, a guard, or another statement
@@ -120,35 +120,30 @@ module _ (full : Limits) (r : Recipe) where
 
   done_holds : (σ : Store) (q : Queue) (z : ℤ) → Done q σ z → is_done σ.issued (is_live S q) z ≡ true
   unfolding is_done
-  done_holds σ q z d =
-      rw (d.is_number, le-leb 1 d.number d.from_one, le-leb d.number σ.issued d.was_issued)
-      (go (is_live S q d.number) refl)
+  done_holds σ q z zero_done = refl
+  done_holds σ q z (issued_done {n} l h g) = rw (ne_eqb n 0 (omega arith), le-leb n σ.issued h) (go (is_live S q n) refl)
     where
-      go : (b : Bool) → is_live S q d.number ≡ b → not b ≡ true
-      go true e = absurd (d.not_live (counted_dom d.number q (ltb-true _ _ e)))
+      go : (b : Bool) → is_live S q n ≡ b → not b ≡ true
+      go true e = absurd (g (counted_dom n q (ltb-true _ _ e)))
       go false e = refl
 
   done_yes : (σ : Store) (q : Queue) (z : ℤ) → is_done σ.issued (is_live S q) z ≡ true → Done q σ z
   unfolding is_done
   done_yes σ q (negsuc n) h = absurd (true≢false (sym h))
-  done_yes σ q (pos n) h = go (leb 1 n) (leb n σ.issued) (is_live S q n) refl refl refl h
+  done_yes σ q (pos n) h = go (eqb n 0) (leb n σ.issued) (is_live S q n) refl refl refl h
     where
       go : (a b c : Bool)
-          → leb 1 n ≡ a
+          → eqb n 0 ≡ a
           → leb n σ.issued ≡ b
           → is_live S q n ≡ c
-          → (a && b && not c) ≡ true
+          → (a || (b && not c)) ≡ true
           → Done q σ (pos n)
-      go true true false a b c h = record {
-        number = n;
-        is_number = refl;
-        from_one = leb-true _ _ a;
-        was_issued = leb-true _ _ b;
-        not_live = λ m. omega (arith, dom_counted m, ltb-false 0 (count S n q) c);
-      }
-      go true true true a b c h = absurd (true≢false (sym h))
-      go true false c a b c' h = absurd (true≢false (sym h))
-      go false b c a b' c' h = absurd (true≢false (sym h))
+      go true b c a b' c' h = subst (λ (n : ℕ). Done q σ (pos n)) (sym (eqb-true n 0 a)) zero_done
+      go false true false a b c h =
+          issued_done (omega (arith, eqb-false n 0 a)) (leb-true _ _ b)
+          (λ m. omega (arith, dom_counted m, ltb-false 0 (count S n q) c))
+      go false true true a b c h = absurd (true≢false (sym h))
+      go false false c a b c' h = absurd (true≢false (sym h))
 
   -- ---- readiness, by the rules and by the test
 

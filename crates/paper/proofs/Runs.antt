@@ -19,6 +19,7 @@ use Rattle.rules.specs.Scheduler.{Rules, novalue, finish, jam, bar, next, finish
 use Rattle.rules.specs.Steps.{limits, recipes}
 use Rattle.rules.specs.Run.{outcome, room_of, open_on, run_on}
 use Rattle.rules.specs.Demand.{Bytes}
+use Rattle.rules.specs.Fairness.{Every}
 use Rattle.rules.proofs.Lists.{every_map}
 use Rattle.rules.proofs.Scheduling.Whole.{by_test}
 use Rattle.rules.proofs.Scheduling.Endings.{by_number}
@@ -27,7 +28,7 @@ use Rattle.rules.proofs.Steps.{run_fits}
 use Rattle.rules.proofs.Blocks.{fit_read, read-write}
 use Rattle.rules.proofs.Grammar.Theorem.{accepted-spells}
 use Rattle.rules.proofs.Demand.{written_is}
-use Rattle.paper.specs.Paper.{Queue, task, running, initial, InDom, next_id, Derivation, empty, rule_then}
+use Rattle.paper.specs.Paper.{Queue, task, running, initial, here, there, InDom, next_id, Derivation, empty, rule_then}
 use Rattle.paper.specs.Follows.{shown_task, shown, Placed, Derives, PaperRules}
 use Rattle.paper.proofs.Exact.{dom_counted}
 use Rattle.paper.proofs.Derivations.{one-derivation, free}
@@ -92,7 +93,7 @@ module _ (r : Recipe) (w : Within r) where
   placed c f =
       every_map (TaskFit r c.store) (λ t. is_place r t.place ≡ true) (λ t g. g.placed) (live c) f.tasks_fit
 
-  -- ---- the identifier that a spawn gives is that of no task
+  -- ---- the identifier that a spawn gives is that of no task, and so is 0
 
   shown-live : (c : State) → live (shown r c) ≡ map (shown_task r) (live c)
   shown-live c = go c.active
@@ -108,6 +109,14 @@ module _ (r : Recipe) (w : Within r) where
       let n = next_id c.store in
       let i = dom_counted limits r (subst (λ (q : Queue). InDom n q) (shown-live c) h) in
       omega (arith, i, shown-count limits r w n (live c), f.valid.below n (omega arith))
+
+  zero_free : (σ : Store) (q : List (Task ℕ)) → Every (TaskFit r σ) q → ¬ InDom 0 (map (shown_task r) q)
+  zero_free σ [] f h = elim h [ ]
+  zero_free σ (t ∷ q) f (here h) = omega (arith, h, f.0.from_one)
+  zero_free σ (t ∷ q) f (there h) = zero_free σ q f.1 h
+
+  no_id_zero : (c : State) → Fit r c → ¬ InDom 0 (live (shown r c))
+  no_id_zero c f h = zero_free c.store (live c) f.tasks_fit (subst (λ (q : Queue). InDom 0 q) (shown-live c) h)
 
 -- ---- the theorem
 
@@ -153,4 +162,5 @@ module _ (t : List ℕ) (bt : Bytes t) (h : check t ≡ fine) where
     steps = λ full c p. follows full r w c p;
     runs = λ b bb g n l. subst (Derives t b) (sym (run_is b g n l)) (derives b (fit_read r b bb g) n l);
     new_id = λ b bb g. new_id r w (read_block b) (fit_read r b bb g);
+    no_id_zero = λ b bb g. no_id_zero r w (read_block b) (fit_read r b bb g);
   }

@@ -124,3 +124,6 @@ pub record PaperRules (t : List ℕ) : Type 0 where
   -- "f' ∉ dom(T) ∪ {f}": no task has the identifier that a spawn gives
   pub new_id : (b : List ℕ) → Bytes b → check_block (is_place (recipe_of t)) b ≡ fine
       → ¬ InDom (next_id (read_block b).store) (live (shown_block t b))
+  -- Request 2.7: "0 counts as done, as figure 4 .. has it": no task has the identifier 0, which is figure 4's premise.
+  pub no_id_zero : (b : List ℕ) → Bytes b → check_block (is_place (recipe_of t)) b ≡ fine
+      → ¬ InDom 0 (live (shown_block t b))

@@ -96,13 +96,11 @@ InDom f q = Any (λ t. t.number ≡ f) q
 -- The wait for a number is over, q being the whole queue, with the task that waits.
 -- The first difference that document 01 names: for figure 4 a wait is over when the awaited task is not in the rest of
 -- the queue, so that a wait for oneself or for a number never issued would pass. Here, as in section 7.2, the awaited
--- task has to be done: its number has been issued, and it is not live.
-pub record Done (q : Queue) (σ : Store) (awaited : ℤ) : Type 0 where
-  pub number : ℕ
-  pub is_number : awaited ≡ pos number
-  pub from_one : 1 ≤ number
-  pub was_issued : number ≤ σ.issued
-  pub not_live : ¬ InDom number q
+-- task has to be done: its number has been issued, and it is not live. By request 2.7 of document 02 "0 counts as done, as
+-- figure 4 .. has it; other numbers never issued still hold the waiter."
+pub data Done (q : Queue) (σ : Store) : (awaited : ℤ) → Type 0 where
+  zero_done : Done q σ (pos 0)
+  issued_done : {n : ℕ} → 1 ≤ n → n ≤ σ.issued → ¬ InDom n q → Done q σ (pos n)
 
 -- "s is not of the form await x; s'"; nor (:: g; s'), for which figure 7 has rules of its own. (Section 8: "in SOS one needs
 -- to look at each rule for each such statement".)

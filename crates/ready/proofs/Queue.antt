@@ -2,14 +2,14 @@
 -- Assumes nothing.
 use Prim.Native.Nat.{ℕ, suc, ◌+◌, ◌≤◌, ◌<◌}
 use mathlib.Core.Path.{◌≡◌, refl, sym, ap, ◌∙◌, subst}
-use mathlib.Core.Bool.{Bool, true, false, not, ◌&&◌, cond}
+use mathlib.Core.Bool.{Bool, true, false, not, ◌||◌, ◌&&◌, cond}
 use mathlib.Core.List.{List, [], ◌∷◌}
 use native.Mathlib.Omega.{arith}
 use native.Mathlib.Nat.{zero-add}
 use lib.Dec.{eqb, ltb, leb, leb-suc-suc}
 use lib.IntN.{ℤ, pos, negsuc}
 use lib.ListN.{length}
-use borrow.Author.Tests.{le-leb, lt-leb, lt-ltb}
+use borrow.Author.Tests.{ne_eqb, le-leb, lt-leb, lt-ltb}
 use Rattle.std.specs.Prelude.{Option, None, Some, is_some}
 use Rattle.rules.specs.Recipe.{Recipe}
 use Rattle.rules.specs.State.{Task, tab}
@@ -26,10 +26,6 @@ every_at P f n h i l =
     (every-get_or P (f i) (tab n f) h i (λ g. absurd (omega (arith, length-tab f n))))
 
 -- ---- numbers
-
-and_false : (b c : Bool) → (b && false && c) ≡ false
-and_false true c = refl
-and_false false c = refl
 
 module _ (x : Recipe) (n : ℕ) where
   live-position : (q : List (Task ℕ)) → is_live (recipes x) q n ≡ is_some (position n q)
@@ -60,22 +56,25 @@ unfolding is_done
 negative_done issued live (pos n) h = let z : ◌≡◌ {A = ℕ} 0 1 = cc in absurd (omega arith)
 negative_done issued live (negsuc n) h = refl
 
--- a value is done if the number n that it is has been issued and is not live
-done_natural : (issued : ℕ) (live : ℕ → Bool) (z : ℤ) (n : ℕ) → natural z ≡ Some n
-    → is_done issued live z ≡ (leb 1 n && leb n issued && not (live n))
-unfolding is_done
-done_natural issued live (pos m) n h = let e : m ≡ n = cc in rw e refl
-done_natural issued live (negsuc m) n h = let z : ◌≡◌ {A = ℕ} 0 1 = cc in absurd (omega arith)
-
+-- whether a value is done, by the number n that it is: 0, or one that has been issued and is not live
 module _ (issued : ℕ) (live : ℕ → Bool) (z : ℤ) (n : ℕ) (is-n : natural z ≡ Some n) where
-  done_is : is_done issued live z ≡ (leb 1 n && leb n issued && not (live n))
-  done_is = done_natural issued live z n is-n
+  done_is : is_done issued live z ≡ (eqb n 0 || (leb n issued && not (live n)))
+  unfolding is_done
+  done_is = by z is-n
+    where
+      by : (z : ℤ) → natural z ≡ Some n → is_done issued live z ≡ (eqb n 0 || (leb n issued && not (live n)))
+      by (pos m) h = let e : m ≡ n = cc in rw e refl
+      by (negsuc m) h = let z : ◌≡◌ {A = ℕ} 0 1 = cc in absurd (omega arith)
 
-  pub none_done : n ≡ 0 → false ≡ is_done issued live z
-  none_done h = sym (done_is ∙ rw h)
+  pub zero_done : n ≡ 0 → true ≡ is_done issued live z
+  zero_done h = sym (done_is ∙ rw h refl)
 
-  pub not-issued : issued < n → false ≡ is_done issued live z
-  not-issued h = sym (done_is ∙ rw (lt-leb n issued h) (and_false (leb 1 n) (not (live n))))
+  module _ (h : ¬ (n ≡ 0)) where
+    done_issued : is_done issued live z ≡ (leb n issued && not (live n))
+    done_issued = done_is ∙ rw (ne_eqb n 0 h) refl
 
-  pub issued_done : ¬ (n ≡ 0) → n ≤ issued → not (live n) ≡ is_done issued live z
-  issued_done h g = sym (done_is ∙ rw (le-leb 1 n (omega arith), le-leb n issued g))
+    pub not-issued : issued < n → false ≡ is_done issued live z
+    not-issued l = sym (done_issued ∙ rw (lt-leb n issued l) refl)
+
+    pub issued_done : n ≤ issued → not (live n) ≡ is_done issued live z
+    issued_done l = sym (done_issued ∙ rw (le-leb n issued l) refl)

@@ -30,7 +30,7 @@ idle s = record { store = store_of s; active = none; queue = queue_of s.queue }
 abbrev pub ready_in : (table : List ℕ) → State → Task ℕ → Readiness
 ready_in table c t = readiness (recipes (recipe_of table)) c t
 
--- a value that is not the number of a task that is over
+-- a value that still holds a waiter
 abbrev pub NotDone : (table : List ℕ) → State → ℤ → Type 0
 NotDone table c z = is_done c.store.issued (is_live (recipes (recipe_of table)) c.queue) z ≡ false
 

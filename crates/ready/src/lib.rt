@@ -44,14 +44,14 @@ pub fn natural(v: i32) -> Option<u32>
     u32::try_from(v).ok()
 }
 
-// Whether a value is the number of a task that is over.
+// Whether a wait for a value is over: it is 0, or the number of a task that is over.
 fn is_done(s: &State, v: i32) -> bool
     ensures { (x : Recipe) → result ≡ is_done s.now.issued (is_live (recipes x) (queue_of s.now.queue)) v }
 {
     let Some(number) = natural(v) else {
         return false;
     };
-    number != 0 && number <= u32::from(s.issued) && s.queue.position(number).is_none()
+    number == 0 || (number <= u32::from(s.issued) && s.queue.position(number).is_none())
 }
 
 // Whether a task at a guard is ready: whether its expression is true now, with the task's own parameter. Without a value it is untrue.

@@ -1,4 +1,4 @@
--- Every row of the trial press's table holds, the published list, and what the witness counts to, computed by the definitions.
+-- Every row of the trial press's table holds, the published list, which numbers are done, and what the witness counts to, computed by the definitions.
 -- (They need no law, so that a definition that is wrong fails here before any lemma about it.)
 -- Assumes nothing.
 use Prim.Native.Nat.{ℕ}
@@ -9,8 +9,10 @@ use mathlib.Core.List.{[]}
 use native.Mathlib.Omega.{arith}
 use Rattle.rules.specs.State.{State}
 use Rattle.rules.specs.Scheduler.{Next, finish, jam, bar, goes}
+use Rattle.rules.specs.Steps.{is_done}
 use Rattle.rules.specs.Answers.{refuses, published}
 use Rattle.rules.specs.Demand.{logs_written}
+use Rattle.rules.specs.Optional.{Done}
 use Rattle.rules.specs.Why as W
 use Rattle.rules.specs.Batch as B
 use Rattle.rules.specs.Trial.{rows, start_rows, why_rows, batch_rows, outcome_of, all_pass, all_start, all_why, all_batch, refusals, returned, why_returned, batch_returned, those}
@@ -65,6 +67,10 @@ witness_counts = record {
   picks = refl;
   turned = refl;
 }
+
+pub done_are : Done
+unfolding is_done
+done_are = record { none_issued = refl; one_issued = refl; three_issued = refl }
 
 -- a step with an event comes next
 tells : Next rules → Bool

@@ -22,4 +22,5 @@ pub mod Why
 pub mod Batch
 pub mod Says
 pub mod Witness
+pub mod Optional
 pub mod Histories

@@ -3,10 +3,10 @@
 use Prim.Native.Nat.{◌+◌, ◌*◌, ◌≤◌, ◌<◌}
 use mathlib.Core.Path.{◌≡◌, refl, sym, subst}
 use mathlib.Core.Option.{none}
-use mathlib.Core.Bool.{true}
 use mathlib.Core.List.{[], ◌∷◌, ◌++◌}
 use native.Mathlib.Omega.{arith}
 use lib.Dec.{eqb, lit≤, lit<}
+use lib.IntN.{pos}
 use lib.ListN.{length, take, drop, get_or}
 use lib.Seq.{drop-cons, split_at}
 use borrow.Author.Tests.{ne_eqb}
@@ -15,20 +15,28 @@ use Rattle.rules.specs.State.{fresh}
 use Rattle.rules.specs.Scheduler.{finished}
 use Rattle.rules.specs.Moments.{budgets, Moment, ends}
 use Rattle.rules.specs.Fairness.{steps, until, Valid, Waiting, TakenWithin}
+use Rattle.rules.specs.Optional.{AwaitsZero}
 use Rattle.rules.specs.Witness.{table, calls, rules, moments, waiting, ahead, main, Tight}
 use Rattle.rules.proofs.Steps.{is_le, demand_of_recipes}
+use Rattle.rules.proofs.Optional.{waiting_at_zero}
 use Rattle.rules.proofs.Computed.{meaning}
 
-always : true ≡ true
+always : pos 0 ≡ pos 0
 always = refl
 
-waits : Waiting rules main 2 waiting
+at_zero : AwaitsZero (recipe_of table) main 2 waiting
 unfolding moments meaning
-waits = record {
-  can_go_holds = ((λ e. always), ((λ e. always), ((λ e. always), ((λ e. always), ((λ e. always), ((λ e. always), ((λ e. always), ((λ e. always), ((λ e. always), tt)))))))));
+at_zero = record {
+  name = 10;
+  next = 6;
+  at_await = refl;
+  holds_zero = ((λ e. always), ((λ e. always), ((λ e. always), ((λ e. always), ((λ e. always), ((λ e. always), ((λ e. always), ((λ e. always), ((λ e. always), tt)))))))));
   bursts = lit≤ tt;
   free = (tt, (tt, (tt, ((λ e. e), ((λ e. e), (tt, (tt, (tt, (tt, tt)))))))));
 }
+
+waits : Waiting rules main 2 waiting
+waits = waiting_at_zero (recipe_of table) main 2 waiting at_zero
 
 -- one live task, with the highest number
 fresh_valid : Valid rules fresh
@@ -72,4 +80,4 @@ unfolding moments meaning
 exactly = refl {a = 7}
 
 pub tight : Tight
-tight = record { waits = waits; bounded = bounded; exactly = exactly }
+tight = record { at_zero = at_zero; waits = waits; bounded = bounded; exactly = exactly }

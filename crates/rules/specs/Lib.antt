@@ -22,6 +22,7 @@ pub mod Guards
 pub mod NoValue
 pub mod Why
 pub mod Batch
+pub mod Optional
 pub mod Histories
 pub mod Witness
 pub mod Rest

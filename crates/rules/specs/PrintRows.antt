@@ -2,7 +2,7 @@
 -- Assumes nothing.
 use Rattle.std.specs.Prelude.{ℕ, Bool, true, ◌&&◌, List, [], ◌∷◌, ◌++◌, pos, negsuc}
 use Rattle.rules.specs.Recipe.{row}
-use Rattle.rules.specs.Trial.{row_a, row_c, procedure_of, one9, none9, same}
+use Rattle.rules.specs.Trial.{row_a, row_c, wait_for, procedure_of, one9, none9, same}
 use Rattle.rules.specs.Run.{Outcome}
 use Rattle.rules.specs.Print.{bytes, line, ending_line, run_text, printed}
 
@@ -26,11 +26,13 @@ text_a =
     ++ bytes "ended 1 0 0\n"
     ++ bytes "finished 8\n"
 
--- Row A; row C, stuck; the lowest value in valve 0; a loop with no end; a valve set and then a quotient by 0; a span over the enclosing end.
+-- Row A; row C; a wait for a number never issued, stuck; the lowest value in valve 0; a loop with no end; a valve set and then a quotient by 0; a span over
+-- the enclosing end.
 abbrev pub rows : List Row
 rows =
     prints row_a text_a
-    ∷ prints row_c (bytes "waits 1 0 0\nstuck 1\n")
+    ∷ prints row_c (bytes "waits 1 0 0\ntaken 1 0 0\nended 1 0 0\nfinished 3\n")
+    ∷ prints (wait_for (pos 2)) (bytes "waits 1 0 2\nstuck 2\n")
     ∷ prints (row 1 0 2 (pos 0) ++ row 3 0 1 (pos 0) ++ row 9 0 0 (negsuc 2147483647))
     (bytes "valve 1 0 -2147483648\nended 1 0 0\nfinished 2\n")
     ∷ prints (row 1 0 2 (pos 0) ++ row 5 0 1 (pos 0) ++ row 9 0 0 (pos 1)) (bytes "paused 10000\n")

@@ -1,6 +1,6 @@
 -- Document 01, "Steps": the recipe language as a task language, over any kind of place.
 -- Assumes nothing.
-use Rattle.std.specs.Prelude.{ℕ, suc, Bool, false, not, ◌&&◌, cond, List, [], ◌∷◌, leb, ltb, min, ℤ, pos, negsuc, length}
+use Rattle.std.specs.Prelude.{ℕ, suc, Bool, false, not, ◌||◌, ◌&&◌, cond, List, [], ◌∷◌, eqb, leb, ltb, min, ℤ, pos, negsuc, length}
 use Rattle.std.proofs.Math.Option.{Option, none, some}
 use Rattle.rules.specs.Values.{truth, is_true}
 use Rattle.rules.specs.Recipe.{Recipe, Env, read, write, value}
@@ -9,9 +9,10 @@ use Rattle.rules.specs.State.{History, Kept, Store, largest, spawned_by}
 use Rattle.rules.specs.Log.{Event, spawned, taken, gave, waits, turned, ended, valve}
 use Rattle.rules.specs.Scheduler.{Rules, Readiness, ready, waits_for, at_guard, no_number, on, back, over, Halt, tasks, spent, novalue, Act, halts, does}
 
--- "A number is done if it has been issued and its task is not live"
+-- "A number is done if it has been issued and its task is not live"; request 2.7 of document 02: "0 counts as done, as figure 4 of source document 002
+-- has it; other numbers never issued still hold the waiter."
 unfoldable pub is_done : (issued : ℕ) → (ℕ → Bool) → ℤ → Bool
-is_done issued live (pos n) = leb 1 n && leb n issued && not (live n)
+is_done issued live (pos n) = eqb n 0 || (leb n issued && not (live n))
 is_done issued live (negsuc n) = false
 
 -- "3 tasks: next is a spawn and 32 tasks live; 4 spent: next is a spawn and 65,535 is issued": the limit that stops a spawn, if any, with so

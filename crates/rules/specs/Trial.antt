@@ -73,6 +73,9 @@ log_b =
 abbrev pub row_c : List ℕ
 row_c = row 1 0 1 (pos 0) ++ row 8 8 0 (pos 0)
 
+abbrev pub log_c : List ℕ
+log_c = row 4 0 1 (pos 0) ++ row 2 0 1 (pos 0) ++ row 6 0 1 (pos 0)
+
 abbrev pub row_d : List ℕ
 row_d = row 1 0 3 (pos 0) ++ row 3 8 1 (pos 0) ++ row 9 0 0 (pos 1) ++ row 8 8 0 (pos 0)
 
@@ -125,7 +128,8 @@ abbrev pub starred : List Row
 starred =
     run row_a 0 8 (some log_a)
     ∷ run row_b 0 9 (some log_b)
-    ∷ run row_c 2 1 none
+    -- request 2.7 of document 02: "Trial row C finishes after 3 steps: wait, taken, ended"
+    ∷ run row_c 0 3 (some log_c)
     ∷ run row_d 2 2 none
     ∷ run row_e 0 1 none
     ∷ within 0 800 row_e 1 0
@@ -173,10 +177,10 @@ abbrev pub spawn_third : List ℕ
 spawn_third =
     row 1 0 2 (pos 0) ++ row 6 8 1 (pos 2) ++ row 9 0 0 (pos 6) ++ row 1 0 1 (pos 0) ++ row 2 0 0 (pos 0) ++ row 1 0 2 (pos 0) ++ row 3 5 1 (pos 0) ++ row 10 64 0 (pos 0)
 
--- A task waits for variable 9, which another sets to its own number before it ends.
+-- A task waits for variable 9, a number never issued, which another sets to its own number before it ends.
 abbrev pub set_later : List ℕ
 set_later =
-    row 1 0 3 (pos 0) ++ row 6 8 1 (pos 1) ++ row 9 0 0 (pos 0) ++ row 8 9 0 (pos 0)
+    row 1 0 5 (pos 0) ++ row 3 9 1 (pos 0) ++ row 9 0 0 (minus 1) ++ row 6 8 1 (pos 1) ++ row 9 0 0 (pos 0) ++ row 8 9 0 (pos 0)
     ++ row 1 0 2 (pos 0) ++ row 3 9 1 (pos 0) ++ row 10 8 0 (pos 0)
 
 -- A task spawned into its own parameter has the argument that the old parameter gave, and its number is then the parameter.
@@ -190,7 +194,7 @@ abbrev pub wait_for_main : List ℕ
 wait_for_main =
     row 1 0 2 (pos 0) ++ row 6 8 1 (pos 1) ++ row 9 0 0 (pos 0) ++ row 1 0 3 (pos 0) ++ row 3 9 1 (pos 0) ++ row 9 0 0 (pos 1) ++ row 8 9 0 (pos 0)
 
--- main waits for a number that is never issued
+-- main waits for this number
 abbrev pub wait_for : ℤ → List ℕ
 wait_for z = row 1 0 3 (pos 0) ++ row 3 8 1 (pos 0) ++ row 9 0 0 z ++ row 8 8 0 (pos 0)
 
@@ -203,7 +207,7 @@ abbrev pub wait_done : List ℕ
 wait_done =
     row 1 0 5 (pos 0) ++ row 6 8 1 (pos 1) ++ row 9 0 0 (pos 0) ++ row 7 0 0 (pos 0) ++ row 2 0 0 (pos 0) ++ row 8 8 0 (pos 0) ++ row 1 0 0 (pos 0)
 
--- "turned" has the value at the try, not the one of the wait.
+-- "turned" has the value at the try, not the one of the wait, which was 0.
 abbrev pub turn_later : List ℕ
 turn_later =
     row 1 0 3 (pos 0) ++ row 6 8 1 (pos 1) ++ row 9 0 0 (pos 0) ++ row 8 9 0 (pos 0)
@@ -229,8 +233,8 @@ readings =
     ∷ run two_spawns 0 7
     (some (row 1 0 1 (pos 2) ++ row 1 0 1 (pos 3) ++ row 6 0 1 (pos 0) ++ row 2 0 2 (pos 0) ++ row 6 0 2 (pos 0) ++ row 2 0 3 (pos 0) ++ row 6 0 3 (pos 0)))
     ∷ run spawn_third 0 5 (some (row 1 0 1 (pos 2) ++ row 6 0 1 (pos 0) ++ row 2 0 2 (pos 0) ++ row 7 5 2 (pos 6) ++ row 6 0 2 (pos 0)))
-    ∷ run set_later 0 7
-    (some (row 1 0 1 (pos 2) ++ row 4 0 1 (pos 0) ++ row 2 0 2 (pos 0) ++ row 6 0 2 (pos 0) ++ row 2 0 1 (pos 0) ++ row 6 0 1 (pos 0)))
+    ∷ run set_later 0 8
+    (some (row 1 0 1 (pos 2) ++ row 4 0 1 (minus 1) ++ row 2 0 2 (pos 0) ++ row 6 0 2 (pos 0) ++ row 2 0 1 (pos 0) ++ row 6 0 1 (pos 0)))
     ∷ run spawn_own 0 7
     (some (row 1 0 1 (pos 2) ++ row 7 0 1 (pos 2) ++ row 6 0 1 (pos 0) ++ row 2 0 2 (pos 0) ++ row 7 1 2 (pos 9) ++ row 6 0 2 (pos 0)))
     ∷ run wait_for_main 0 7
@@ -248,6 +252,46 @@ readings =
     ∷ run (no_body 4 (pos 0)) 0 3 (some (row 7 0 1 (pos 5) ++ row 6 0 1 (pos 0)))
     ∷ run (no_body 5 (pos 0)) 0 3 (some (row 7 0 1 (pos 5) ++ row 6 0 1 (pos 0)))
     ∷ within 5 800 (no_body 5 (minus 1)) 1 5
+    ∷ []
+
+-- ---- optional tasks
+
+-- Main spawns procedure 1 into variable 8 if this number is not 0, awaits it, and sets valve 0.
+abbrev pub optional : ℤ → List ℕ
+optional z =
+    row 1 0 7 (pos 0) ++ row 4 0 3 (pos 0) ++ row 9 0 0 z ++ row 6 8 1 (pos 1) ++ row 9 0 0 (pos 0) ++ row 8 8 0 (pos 0) ++ row 3 0 1 (pos 0) ++ row 9 0 0 (pos 5)
+    ++ row 1 0 0 (pos 0)
+
+-- A suspend before the await of a 0, and an await of the parameter, which is 0.
+abbrev pub zero_tried : List ℕ
+zero_tried = row 1 0 2 (pos 0) ++ row 7 0 0 (pos 0) ++ row 8 8 0 (pos 0)
+
+abbrev pub own_zero : List ℕ
+own_zero = row 1 0 1 (pos 0) ++ row 8 64 0 (pos 0)
+
+-- Main awaits variable 9, a number never issued, which another task sets to 0 after a turn.
+abbrev pub zero_later : List ℕ
+zero_later =
+    row 1 0 5 (pos 0) ++ row 3 9 1 (pos 0) ++ row 9 0 0 (pos 3) ++ row 6 8 1 (pos 1) ++ row 9 0 0 (pos 0) ++ row 8 9 0 (pos 0)
+    ++ row 1 0 3 (pos 0) ++ row 7 0 0 (pos 0) ++ row 3 9 1 (pos 0) ++ row 9 0 0 (pos 0)
+
+abbrev pub optionals : List Row
+optionals =
+    -- wanted or not
+    run (optional (pos 1)) 0 8
+    (some (row 1 0 1 (pos 2) ++ row 4 0 1 (pos 2) ++ row 2 0 2 (pos 0) ++ row 6 0 2 (pos 0) ++ row 2 0 1 (pos 0) ++ row 7 0 1 (pos 5) ++ row 6 0 1 (pos 0)))
+    ∷ run (optional (pos 0)) 0 5 (some (row 4 0 1 (pos 0) ++ row 2 0 1 (pos 0) ++ row 7 0 1 (pos 5) ++ row 6 0 1 (pos 0)))
+    -- reached from a suspend it is tested when tried, with no wait before; the last name of an await
+    ∷ run zero_tried 0 3 (some (row 3 0 1 (pos 0) ++ row 2 0 1 (pos 0) ++ row 6 0 1 (pos 0)))
+    ∷ run own_zero 0 3 (some log_c)
+    -- a 0 that is there at the try
+    ∷ run zero_later 0 11
+    (some (row 1 0 1 (pos 2) ++ row 4 0 1 (pos 3) ++ row 2 0 2 (pos 0) ++ row 3 0 2 (pos 0) ++ row 5 0 1 (pos 3) ++ row 2 0 2 (pos 0) ++ row 6 0 2 (pos 0) ++ row 2 0 1 (pos 0)
+    ++ row 6 0 1 (pos 0)))
+    -- other numbers never issued: the lowest, and two whose last bytes are 0
+    ∷ run (wait_for lowest) 2 2 (some (row 4 0 1 lowest))
+    ∷ run (wait_for (pos 65536)) 2 2 (some (row 4 0 1 (pos 65536)))
+    ∷ run (wait_for (pos 256)) 2 2 (some (row 4 0 1 (pos 256)))
     ∷ []
 
 -- ---- guards
@@ -456,9 +500,8 @@ columns =
     ++ each 12 1 (procedure_of (row 0 0 0 (pos 0)) ∷ procedure_of (row 1 0 0 (pos 0)) ∷ procedure_of (row 14 0 0 (pos 0)) ∷ [])
     ++ each 12 2 (set_to (row 8 0 0 (pos 0)) ∷ set_to (guard_on zero9) ∷ set_to (row 14 0 0 (pos 0)) ∷ procedure_of (guard_on (row 2 0 0 (pos 0))) ∷ [])
     ++ each 17 1 (procedure_of (row 6 8 1 (pos 255) ++ zero9) ∷ [])
-    -- the last name of a wait; a skip and a suspend as the first place
-    ++ run (procedure_of (row 8 64 0 (pos 0))) 2 1 (some (row 4 0 1 (pos 0)))
-    ∷ run (procedure_of (row 2 0 0 (pos 0))) 0 2 (some (row 6 0 1 (pos 0)))
+    -- a skip and a suspend as the first place
+    ++ run (procedure_of (row 2 0 0 (pos 0))) 0 2 (some (row 6 0 1 (pos 0)))
     ∷ run (procedure_of (row 7 0 0 (pos 0))) 0 3 (some (row 3 0 1 (pos 0) ++ row 2 0 1 (pos 0) ++ row 6 0 1 (pos 0)))
     ∷ []
 
@@ -589,9 +632,10 @@ blocks =
     ∷ from (block_of 32 32 1 (crowd 32)) (leaves (block_of 32 32 1 (crowd 32)) (naming 1 (within 1 8 spawn_none 24 0)))
     ∷ from (block_of 65535 1 1 (crowd 1)) (naming 1 (within 1 8 spawn_none 24 0))
     ∷ from (block_of 65535 32 1 (crowd 32)) (within 0 8 spawn_none 1 0)
-    -- a finished and a stuck state without budget; room for one record, and for two
+    -- without budget: a finished state, a stuck one, one at an await of a 0; room for one record, and for two
     ∷ from (block_of 1 0 0 []) (within 0 0 row_e 0 0)
-    ∷ from (block_of 1 1 0 (crowd 1)) (within 0 0 row_c 2 0)
+    ∷ from (block_of 1 1 0 (task 1 1 (pos 1))) (within 0 0 own_zero 2 0)
+    ∷ from (block_of 1 1 0 (crowd 1)) (within 0 0 own_zero 1 0)
     ∷ from (block_of 1 1 0 (crowd 1)) (within 0 0 row_e 1 0)
     ∷ within 1000 15 two_spawns 5 1
     ∷ within 1000 16 two_spawns 5 2
@@ -602,7 +646,7 @@ blocks =
     ∷ []
 
 abbrev pub rows : List Row
-rows = starred ++ operators ++ readings ++ guarded ++ missing ++ faults ++ columns ++ blocks
+rows = starred ++ operators ++ readings ++ optionals ++ guarded ++ missing ++ faults ++ columns ++ blocks
 
 -- ---- start
 
@@ -660,9 +704,9 @@ abbrev pub row_of : ℕ → List ℕ
 row_of zero = []
 row_of (suc n) = row_of n ++ task (suc n) 1 (pos (suc (suc n)))
 
--- task 1 alone at place 1
+-- task 1 alone, awaiting itself
 abbrev pub alone : List ℕ
-alone = block_of 1 1 0 (crowd 1)
+alone = block_of 1 1 0 (task 1 1 (pos 1))
 
 -- the numbers 1 to n
 abbrev pub up_to : ℕ → List ℕ
@@ -671,9 +715,8 @@ up_to (suc n) = up_to n ++ suc n ∷ []
 
 abbrev pub why_rows : List WhyRow
 why_rows =
-    -- the starred rows that end in "stuck"
-    why row_c (left_by row_c) 2 (1 ∷ [])
-    ∷ why row_d (left_by row_d) 1 (1 ∷ 1 ∷ [])
+    -- the starred row that ends in "stuck"
+    why row_d (left_by row_d) 1 (1 ∷ 1 ∷ [])
     -- two tasks in a circle behind a third; a circle of two
     ∷ why waiting (block_of 3 3 0 (task 3 1 (pos 1) ++ task 1 1 (pos 2) ++ task 2 1 (pos 1))) 1 (3 ∷ 1 ∷ 2 ∷ 1 ∷ [])
     ∷ why waiting (block_of 300 3 0 (task 300 1 (pos 258) ++ task 2 1 (pos 2) ++ task 258 1 (pos 300))) 1 (300 ∷ 258 ∷ 300 ∷ [])
@@ -681,26 +724,30 @@ why_rows =
     ∷ why waiting (block_of 3 3 0 (task 2 1 (pos 3) ++ task 1 2 (pos 0) ++ task 3 1 (pos 1))) 3 (2 ∷ 3 ∷ 1 ∷ [])
     ∷ why waiting (block_of 2 2 0 (task 2 1 (pos 1) ++ task 1 4 (pos 0))) 3 (2 ∷ 1 ∷ [])
     ∷ why waiting (block_of 2 2 0 (task 1 2 (pos 0) ++ task 2 1 (pos 2))) 3 (1 ∷ [])
-    -- numbers never issued: 0, one above the highest, and two whose last two bytes are a task's number
-    ∷ why waiting (block_of 2 2 0 (task 2 1 (pos 1) ++ task 1 1 (pos 0))) 2 (2 ∷ 1 ∷ [])
+    -- numbers never issued: below 0, one above the highest, two whose last two bytes are a task's number, and one whose last two are 0
+    ∷ why (wait_for (minus 1)) (left_by (wait_for (minus 1))) 2 (1 ∷ [])
+    ∷ why waiting (block_of 2 2 0 (task 2 1 (pos 1) ++ task 1 1 (pos 3))) 2 (2 ∷ 1 ∷ [])
     ∷ why waiting (block_of 2 2 0 (task 2 1 (pos 3) ++ task 1 1 (pos 2))) 2 (2 ∷ [])
     ∷ why waiting (block_of 2 2 0 (task 2 1 (pos 65537) ++ task 1 1 (pos 2))) 2 (2 ∷ [])
     ∷ why waiting (block_of 2 2 0 (task 2 1 (minus 65535) ++ task 1 1 (pos 2))) 2 (2 ∷ [])
+    ∷ why waiting (block_of 2 2 0 (task 2 1 (pos 65536) ++ task 1 1 (pos 2))) 2 (2 ∷ [])
     -- 32 tasks in one chain
     ∷ why waiting (block_of 32 32 0 (row_of 31 ++ task 32 1 (pos 1))) 1 (up_to 32 ++ 1 ∷ [])
-    -- not stuck: a task active, none live, one that can go on behind the front, one that awaits a done number
+    -- not stuck: a task active, none live, one that can go on behind the front, one that awaits a done number, one that awaits a 0 behind the front and at it
     ∷ no_chain waiting (block_of 2 2 1 (task 2 1 (pos 1) ++ task 1 1 (pos 2))) 66 25 0
     ∷ no_chain waiting (block_of 2 0 0 []) 66 25 0
     ∷ no_chain waiting (block_of 2 2 0 (task 2 1 (pos 2) ++ task 1 8 (pos 0))) 66 25 0
     ∷ no_chain waiting (block_of 3 2 0 (task 2 1 (pos 1) ++ task 1 1 (pos 3))) 66 25 0
+    ∷ no_chain waiting (block_of 2 2 0 (task 2 1 (pos 1) ++ task 1 1 (pos 0))) 66 25 0
+    ∷ no_chain own_zero (block_of 1 1 0 (crowd 1)) 66 25 0
     -- outputs that are not of 66 bytes
-    ∷ no_chain row_c alone 65 25 0
-    ∷ no_chain row_c alone 67 25 0
-    ∷ no_chain row_c alone 64 25 0
+    ∷ no_chain waiting alone 65 25 0
+    ∷ no_chain waiting alone 67 25 0
+    ∷ no_chain waiting alone 64 25 0
     -- the table first, then the block, then 25
     ∷ no_chain (row 9 0 5 (pos 0)) [] 65 12 0
-    ∷ no_chain row_c (take 775 alone) 65 21 0
-    ∷ no_chain row_c (block_of 1 2 0 (task 1 1 (pos 0) ++ task 1 1 (pos 0))) 65 22 3
+    ∷ no_chain waiting (take 775 alone) 65 21 0
+    ∷ no_chain waiting (block_of 1 2 0 (task 1 1 (pos 0) ++ task 1 1 (pos 0))) 65 22 3
     ∷ []
 
 -- ---- request 2.5 of document 02: many recipes checked together

@@ -159,6 +159,8 @@ pub record AtNeverIssued (r : Recipe) (c : State) (n : ℕ) : Type 0 where
   pub value : ℤ
   pub awaits_it : Awaits r c n value
   pub never : NeverIssued c.store.issued value
+  -- request 2.7 of document 02: "The chain of 2.4 no longer ends at 0"
+  pub no_zero : ¬ (value ≡ pos 0)
 
 pub record AtUntrueGuard (r : Recipe) (c : State) (n : ℕ) : Type 0 where
   pub task : Task ℕ

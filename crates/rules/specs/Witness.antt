@@ -1,7 +1,7 @@
--- A recipe for which the waiting bound is tight: the main task gives way behind two tasks that take two steps a burst, a test and a suspend; what its
--- moments count to, and what picks make of a queue.
+-- A recipe for which the waiting bound is tight: the main task awaits a variable that holds 0, behind two tasks that take two steps a burst, a test and a
+-- suspend; what its moments count to, and what picks make of a queue.
 -- Assumes nothing.
-use Rattle.std.specs.Prelude.{ℕ, ◌+◌, ◌*◌, ◌≡◌, cond, List, [], ◌∷◌, ◌++◌, map, eqb, pos, length, take, drop, replicate}
+use Rattle.std.specs.Prelude.{ℕ, ◌+◌, ◌-◌, ◌*◌, ◌≡◌, cond, List, [], ◌∷◌, ◌++◌, map, eqb, pos, length, take, drop, replicate}
 use Rattle.std.proofs.Math.Option.{none, some}
 use Rattle.rules.specs.Recipe.{row}
 use Rattle.rules.specs.Table.{recipe_of}
@@ -11,15 +11,16 @@ use Rattle.rules.specs.Steps.{recipes}
 use Rattle.rules.specs.Moments.{Call, call, budgets, made, Moment, trace}
 use Rattle.rules.specs.Fairness.{steps, records, endings, Linked, tries, Tries, NoTry, aheads, until, longest, Waiting, TakenWithin, pull, try_first, afterwards}
 use Rattle.rules.specs.Demand.{given_out, times}
+use Rattle.rules.specs.Optional.{AwaitsZero}
 use Rattle.rules.specs.Histories.{takes, starters, IsStarter, Histories}
-use Rattle.rules.specs.Trial.{row_c}
+use Rattle.rules.specs.Trial.{own_zero}
 
 abbrev pub table : List ℕ
 table =
-    row 1 0 5 (pos 0) ++ row 6 8 1 (pos 1) ++ row 9 0 0 (pos 0) ++ row 6 9 1 (pos 1) ++ row 9 0 0 (pos 0) ++ row 7 0 0 (pos 0)
+    row 1 0 5 (pos 0) ++ row 6 8 1 (pos 1) ++ row 9 0 0 (pos 0) ++ row 6 9 1 (pos 1) ++ row 9 0 0 (pos 0) ++ row 8 10 0 (pos 0)
     ++ row 1 0 3 (pos 0) ++ row 5 0 2 (pos 0) ++ row 9 0 0 (pos 1) ++ row 7 0 0 (pos 0)
 
--- the first call ends where the main task has given way; the pause and a call without budget fall into its wait
+-- the first call ends where the main task has joined the back; the pause and a call without budget fall into its wait
 abbrev pub calls : List Call
 calls = call 3 100 ∷ call 3 100 ∷ call 0 100 ∷ call 20 100 ∷ []
 
@@ -40,24 +41,27 @@ at n k = record { number = n; place = k; parameter = pos 0; history = spawned_by
 abbrev pub ahead : List (Task ℕ)
 ahead = at 2 7 ∷ at 3 7 ∷ []
 
--- where the main task waits: at the end of its procedure
+-- where the main task waits: at its await
 abbrev pub main : Task ℕ
-main = at 1 6
+main = at 1 5
 
 -- at the first of these moments the task n is tried
 abbrev pub TriesFirst : (n : ℕ) → List (Moment rules) → Type 0
 TriesFirst n [] = ⊥
 TriesFirst n (m ∷ ms) = Tries rules n m
 
--- Three tasks of row C, which wait for a number never issued: a stuck state.
+-- Three tasks that await their parameter, a number never issued: a stuck state.
 abbrev pub waiters : Rules
-waiters = recipes (recipe_of row_c)
+waiters = recipes (recipe_of own_zero)
+
+abbrev pub waiter : ℕ → Task ℕ
+waiter n = record { number = n; place = 1; parameter = pos 4; history = spawned_by (n - 1) }
 
 abbrev pub all_wait : State
 all_wait = record {
   store = record { issued = 3; variables = replicate 64 (pos 0) };
   active = none;
-  queue = at 1 1 ∷ at 2 1 ∷ at 3 1 ∷ [];
+  queue = waiter 1 ∷ waiter 2 ∷ waiter 3 ∷ [];
 }
 
 abbrev pub numbers : List (Task ℕ) → List ℕ
@@ -120,8 +124,9 @@ pub record NoHistory : Type 0 where
   pub active_spawned : ¬ Histories (only_active (with_history 1 0)) []
   pub queued_spawned : ¬ Histories (only_queued (with_history 1 0)) []
 
--- It waits as the bound asks, with bursts of at most 2 steps, and is taken up at step 2 * (2 + 1) + 1 exactly.
+-- It waits as the bound asks, its variable 0 and bursts of at most 2 steps, and is taken up at step 2 * (2 + 1) + 1 exactly.
 pub record Tight : Type 0 where
+  pub at_zero : AwaitsZero (recipe_of table) main 2 waiting
   pub waits : Waiting rules main 2 waiting
   pub bounded : TakenWithin rules (length ahead * (2 + 1) + 1) main waiting
   pub exactly : steps rules (until rules 1 waiting) ≡ length ahead * (2 + 1) + 1

@@ -14,7 +14,7 @@ use lib.ListN.{length, length-append}
 use borrow.Author.Tests.{lt-ltb, ltb-true, ltb-false}
 use Rattle.rules.specs.Recipe.{Recipe, read}
 use Rattle.rules.specs.State.{Task, State}
-use Rattle.rules.specs.Scheduler.{is, Rules, count, can_go, any_go}
+use Rattle.rules.specs.Scheduler.{is_live, is, Rules, count, can_go, any_go}
 use Rattle.rules.specs.Steps.{env_of, recipes}
 use Rattle.rules.specs.Fairness.{Every, Stuck}
 use Rattle.rules.specs.Demand.{times}
@@ -25,7 +25,7 @@ use Rattle.rules.proofs.Guards.{guards_hold}
 use Rattle.rules.proofs.Steps.{is-other}
 use Rattle.rules.proofs.Scheduling.Bound.{none_go, go_none, every-mid}
 use Rattle.rules.proofs.Why.Named.{times-append, is_self, every-named, no_more_named}
-use Rattle.rules.proofs.Why.Holders.{HasTask, has_count, holder-is, held_by, not-issued, never_done, never_held, waits-is, guard-is, follow-named, follow-on, follow-never, follow-guard}
+use Rattle.rules.proofs.Why.Holders.{no_zero, HasTask, has_count, holder-is, held_by, not-issued, never_done, never_held, waits-is, guard-is, follow-named, follow-on, follow-never, follow-guard}
 
 module _ (r : Recipe) (c : State) (f : Fit r c) where
   abbrev R : Rules
@@ -119,7 +119,7 @@ module _ (r : Recipe) (c : State) (f : Fit r c) where
           by : (o : Option (Task ℕ)) → holder R (read (env_of c.store t) name) c.queue ≡ o → Found ns t (follow R (suc n) c ns t)
           by none e =
               ends_in ns t never_issued _ (follow-never r n c ns t new _ (waits-is r c f t _ p w h) e) l g
-              (record { value = _; awaits_it = w; never = not-issued r c f _ h e }, unnamed)
+              (record { value = _; awaits_it = w; never = not-issued r c f _ h e; no_zero = no_zero c.store.issued (is_live R c.queue) _ h }, unnamed)
           by (some u) e =
               let (is, q) = held_by r c f _ u e in
               let link : Link r c t.number u.number = record { awaits_it = subst (Awaits r c t.number) is w; not_done = rw is at h } in
@@ -200,7 +200,7 @@ module _ (r : Recipe) (c : State) (f : Fit r c) where
   at_last : (n : ℕ) (ns : List ℕ) (t : Task ℕ) (e : End) → Queued c t.number t → EndsSo r c e ns t.number → follow R (suc n) c ns t ≡ chain (ns ++ t.number ∷ []) e
   at_last n ns t named_earlier p x = follow-named r n c ns t (lt-ltb 0 (times t.number ns) (omega (arith, x)))
   at_last n ns t never_issued p (x, new) =
-      follow-never r n c ns t (rw new refl) x.value (waits-is r c f t x.value p x.awaits_it (never_done r c f x.value x.never)) (never_held r c f x.value x.never)
+      follow-never r n c ns t (rw new refl) x.value (waits-is r c f t x.value p x.awaits_it (never_done c.store.issued (is_live R c.queue) x.value x.never x.no_zero)) (never_held r c f x.value x.never)
   at_last n ns t untrue_guard p (x, new) = follow-guard r n c ns t (rw new refl) (guard-is r c f t p x)
 
   -- a number before the last: the chain goes on with the next

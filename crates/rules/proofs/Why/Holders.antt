@@ -2,13 +2,13 @@
 -- Assumes nothing.
 use Prim.Native.Nat.{ℕ, suc, ◌+◌, ◌≤◌}
 use mathlib.Core.Path.{◌≡◌, refl, sym, ap, ◌∙◌, subst}
-use mathlib.Core.Bool.{Bool, true, false, not, ◌&&◌, cond, true≢false, false≢true}
+use mathlib.Core.Bool.{Bool, true, false, not, ◌||◌, ◌&&◌, cond, true≢false, false≢true}
 use mathlib.Core.Option.{Option, none, some}
 use mathlib.Core.List.{List, [], ◌∷◌, ◌++◌, head-eq_of_cons-eq, tail-eq_of_cons-eq}
 use native.Mathlib.Omega.{arith}
 use lib.Dec.{eqb, leb, ltb}
 use lib.IntN.{ℤ, pos, negsuc}
-use borrow.Author.Tests.{eqb-true, le-leb, leb-true}
+use borrow.Author.Tests.{eqb-true, eqb-false, ne_eqb, le-leb, leb-true}
 use Rattle.rules.specs.Values.{is_true}
 use Rattle.rules.specs.Recipe.{Recipe, read, value}
 use Rattle.rules.specs.Places.{awaits, guards, at}
@@ -25,6 +25,22 @@ use Rattle.rules.proofs.Why.Named.{is_self}
 number_is : (z : ℤ) (n : ℕ) → is_number z n ≡ true → z ≡ pos n
 number_is (pos m) n h = ap pos (eqb-true m n h)
 number_is (negsuc m) n h = absurd (false≢true h)
+
+module _ (issued : ℕ) (live : ℕ → Bool) where
+  -- 0 is done, and no other number never issued
+  pub no_zero : (z : ℤ) → is_done issued live z ≡ false → ¬ (z ≡ pos 0)
+  unfolding is_done
+  no_zero z d e = true≢false (rw e at d)
+
+  pub never_done : (z : ℤ) → NeverIssued issued z → ¬ (z ≡ pos 0) → is_done issued live z ≡ false
+  unfolding is_done
+  never_done (negsuc n) h g = refl
+  never_done (pos m) h g = by (eqb m 0) (leb m issued) refl refl
+    where
+      by : (a b : Bool) → eqb m 0 ≡ a → leb m issued ≡ b → (a || (b && not (live m))) ≡ false
+      by true b e k = absurd (g (ap pos (eqb-true m 0 e)))
+      by false true e k = absurd (h m refl (omega (arith, eqb-false m 0 e)) (leb-true m issued k))
+      by false false e k = refl
 
 module _ (r : Recipe) where
   abbrev R : Rules
@@ -109,24 +125,13 @@ module _ (r : Recipe) where
         go none h = absurd (omega (arith, holder_out m c.queue h, has_count m (u, p)))
         go (some v) h = let i = holder_in (pos m) c.queue v h in ap some (queued-once m v u (record { ahead = i.0; others = i.1; stands = i.2; numbered = let e = i.3 in cc }) p)
 
-    -- a number that is not done and no queued task's was never issued
+    -- a number that is not done and no queued task's was never issued, and a number never issued is no queued task's
     pub not-issued : (z : ℤ) → is_done c.store.issued (is_live R c.queue) z ≡ false → holder R z c.queue ≡ none → NeverIssued c.store.issued z
     unfolding is_done
     not-issued z d h m e low high =
         let gone : count R m c.queue ≡ 0 = holder_out m c.queue (rw e at h) in
-        let k : (leb 1 m && leb m c.store.issued && not (ltb 0 (count R m c.queue))) ≡ false = rw e at d in
-        true≢false (rw (le-leb 1 m low, le-leb m c.store.issued high, gone) at k)
-
-    -- a number never issued is not done, and no queued task's
-    pub never_done : (z : ℤ) → NeverIssued c.store.issued z → is_done c.store.issued (is_live R c.queue) z ≡ false
-    unfolding is_done
-    never_done (negsuc n) h = refl
-    never_done (pos m) h = go (leb 1 m) (leb m c.store.issued) refl refl
-      where
-        go : (a b : Bool) → leb 1 m ≡ a → leb m c.store.issued ≡ b → (a && b && not (is_live R c.queue m)) ≡ false
-        go true true e g = absurd (h m refl (leb-true 1 m e) (leb-true m c.store.issued g))
-        go true false e g = refl
-        go false b e g = refl
+        let k : (eqb m 0 || (leb m c.store.issued && not (ltb 0 (count R m c.queue)))) ≡ false = rw e at d in
+        true≢false (rw (ne_eqb m 0 (omega arith), le-leb m c.store.issued high, gone) at k)
 
     pub never_held : (z : ℤ) → NeverIssued c.store.issued z → holder R z c.queue ≡ none
     never_held z h = go (holder R z c.queue) refl

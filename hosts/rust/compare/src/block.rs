@@ -159,12 +159,13 @@ pub fn waiting_block(random: &mut Random, recipe: &Recipe) -> Vec<u8> {
     block
 }
 
-/// The number of a live task, mostly.
+/// The number of a live task, mostly, or one never issued; seldom a done one or 0.
 fn awaited_value(random: &mut Random, block: &[u8]) -> i32 {
     let issued = issued(block);
     match random.below(100) {
         0..88 => number(block, random.within(1, block[2].into())).into(),
-        88..92 => 0,
+        88 => 0,
+        89..92 => -1 - random.below(3) as i32,
         92..97 => i32::from(issued) + 1,
         _ => some_value(random, issued),
     }

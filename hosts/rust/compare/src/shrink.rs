@@ -1,13 +1,16 @@
 //! Makes a case that differs small: each pass tries smaller cases and keeps those that still differ.
 
 use crate::batch::Batch;
-use crate::block::{task_at, BLOCK, TASKS};
+use crate::block::{task_at, variable_at, BLOCK, TASKS};
 use crate::case::{is_tame, Case, MODEL};
 use recipe_runner::{LENGTH, OUTCOME};
 use std::time::{Duration, Instant};
 
 /// After this time the smallest case so far is taken: a long table has many smaller ones.
 const LONGEST: Duration = Duration::from_secs(60);
+
+/// The least number above those that are ever issued.
+const NEVER_ISSUED: i32 = 65_536;
 
 /// The smallest case that the passes reach from this one, which must differ.
 pub fn shrink(case: &Case, differs: &dyn Fn(&Case) -> bool) -> Case {
@@ -21,6 +24,7 @@ pub fn shrink(case: &Case, differs: &dyn Fn(&Case) -> bool) -> Case {
         shrinker.records();
         shrinker.leaves();
         shrinker.hoist();
+        shrinker.awaited();
         shrinker.tasks();
         shrinker.batch();
         shrinker.lengths();
@@ -135,6 +139,19 @@ impl Shrinker<'_> {
         }
     }
 
+    /// Makes parameters and variables the first task's number, for a shorter circle, or one never issued: a task that
+    /// awaits it waits, whichever others are taken out.
+    fn awaited(&mut self) {
+        let values = (1..=TASKS).map(|task| task_at(task) + 4).chain((0..64).map(variable_at));
+        let numbers = [first(&self.best), NEVER_ISSUED];
+        for (at, number) in values.flat_map(|at| numbers.map(|number| (at, number))) {
+            self.attempt(|case| match case.block.get_mut(at..at + 4) {
+                Some(value) if value[..] != [0; 4] => value.copy_from_slice(&number.to_le_bytes()),
+                _ => {}
+            });
+        }
+    }
+
     /// Takes tasks out of the block, the later ones moving up, with and without an active one left.
     fn tasks(&mut self) {
         for (i, idle) in (1..=TASKS).rev().flat_map(|i| [(i, false), (i, true)]) {
@@ -242,6 +259,14 @@ fn bytes(case: &mut Case, buffer: usize) -> &mut [u8] {
         4 => &mut case.batch.lengths,
         5 => &mut case.batch.outcomes,
         _ => &mut case.calls[buffer - 6].log,
+    }
+}
+
+/// The first task's number, 0 where the block is too short.
+fn first(case: &Case) -> i32 {
+    match case.block.get(task_at(1)..task_at(1) + 2) {
+        Some(&[n0, n1]) => u16::from_le_bytes([n0, n1]).into(),
+        _ => 0,
     }
 }
 

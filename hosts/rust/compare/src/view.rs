@@ -65,9 +65,10 @@ impl View<'_> {
         1 <= number && number <= i32::from(self.word(0))
     }
 
+    /// 0 is done, and so is a number that was issued and that no live task has.
     fn is_done(&self, number: i32) -> bool {
         let live = (1..=self.live()).any(|other| i32::from(self.number(other)) == number);
-        self.is_issued(number) && !live
+        number == 0 || (self.is_issued(number) && !live)
     }
 
     /// What the log says of a task if it waits: the number that it awaits, 0 at a guard.

@@ -115,6 +115,7 @@ pub fn workloads() -> Vec<Workload> {
         suspend(31),
         wait(31),
         Workload::new("guard", Step, guarded(32), WARM, STEPS),
+        Workload::new("optional", Step, optional(32), WARM, STEPS),
         Workload::new("spawn", Step, spawner(), 0, STEPS),
         deep(LEVELS),
         Workload::new("quotients", Step, quotients(), 0, STEPS),
@@ -206,6 +207,11 @@ fn waiters(tasks: usize) -> Recipe {
 fn guarded(tasks: usize) -> Recipe {
     let guard = |r: &mut Recipe| r.node(GUARD, 0, 0, |r| r.two(4, |r| r.read(64), |r| r.read(9)));
     first_and_others_with(tasks, |task| task as i32, guard)
+}
+
+/// One task that suspends; the others await a variable that holds 0, again and again.
+fn optional(tasks: usize) -> Recipe {
+    first_and_others(tasks, |r| r.forever(|r| r.leaf(AWAIT, 9, 0)))
 }
 
 /// All tasks in one circle: each waits for the one spawned after it, the last for the first.

@@ -36,7 +36,7 @@ fn ask(random: &mut Random, table: &[u8], block: &[u8]) -> (Explained, Vec<u16>)
 
 /// "From the front of the queue, each waits for the next, ending in a task named earlier (end 1), in one waiting for a
 /// number never issued (end 2), or in one at an untrue guard (end 3)", and "it names no task twice except to close a
-/// circle".
+/// circle"; it "no longer ends at 0" (request 2.7).
 fn is_chain(view: &View, numbers: &[u16], end: u32) {
     assert_eq!(numbers[0], view.number(1));
     for pair in numbers.windows(2) {
@@ -52,7 +52,7 @@ fn is_chain(view: &View, numbers: &[u16], end: u32) {
     let awaited = view.waits(task).expect("the last one waits too");
     match end {
         1 => {}
-        2 => assert!(!view.is_at_guard(task) && !view.is_issued(awaited)),
+        2 => assert!(!view.is_at_guard(task) && !view.is_issued(awaited) && awaited != 0),
         3 => assert!(view.is_at_guard(task)),
         _ => panic!("an end that is none: {end}"),
     }

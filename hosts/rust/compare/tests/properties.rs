@@ -51,7 +51,7 @@ fn trace(table: &[u8], steps: usize) -> Trace {
     trace
 }
 
-/// Recipes that keep many tasks busy, the first four of a fixed kind; some others that mostly end.
+/// Recipes that keep many tasks busy, the first five of a fixed kind; some others that mostly end.
 fn recipes(seed: u64, count: usize) -> impl Iterator<Item = Recipe> {
     let mut random = Random::new(seed);
     let short = Style { nesting: 30, zeros: 10, ..SHORT };
@@ -60,6 +60,7 @@ fn recipes(seed: u64, count: usize) -> impl Iterator<Item = Recipe> {
         1 => many_tasks(|r| r.leaf(AWAIT, 64, 0)),
         2 => many_tasks(|r| r.node(GUARD, 0, 0, |r| r.read(9))),
         3 => many_tasks(|r| r.node(GUARD, 0, 0, |r| r.two(QUOTIENT, |r| r.constant(1), |r| r.read(9)))),
+        4 => many_tasks(|r| r.leaf(AWAIT, 9, 0)),
         _ if i % 3 == 0 => random_recipe(&mut random, &short),
         _ => lively_recipe(&mut random),
     })
@@ -68,8 +69,8 @@ fn recipes(seed: u64, count: usize) -> impl Iterator<Item = Recipe> {
 /// A style of short recipes, with operators of all kinds.
 const SHORT: Style = Style { records: 40, procedures: 3, deepest: 16, nesting: 60, wide: 0, spawns: 20, zeros: 100 };
 
-/// One task that suspends, and 30 others that make the same statement again and again: suspend, wait for the first, or
-/// wait at an untrue guard or at one without a value.
+/// One task that suspends, and 30 others that make the same statement again and again: suspend, wait for the first, wait
+/// at an untrue guard or at one without a value, or await a variable that holds 0.
 fn many_tasks(statement: fn(&mut Recipe)) -> Recipe {
     let mut recipe = Recipe::new();
     recipe.procedure(|r| {

@@ -314,7 +314,7 @@ fn idle(issued: u16, queue: &[(u16, u16, i32)], variable: i32) -> Vec<u8> {
 }
 
 /// All queues of up to four tasks, of each place and each parameter about the numbers issued: circles of every shape,
-/// numbers never issued, guards, done numbers, and tasks that are ready.
+/// numbers never issued, guards, done numbers, 0, and tasks that are ready.
 #[test]
 fn every_small_queue() {
     let table = waiters().table;
@@ -338,7 +338,7 @@ fn every_small_queue() {
     assert!(coverage.whys[&25] > 1_000, "{coverage}");
 }
 
-/// Every number of 16 bits and some about them, awaited by the front: never issued, done, its own, and the other's.
+/// Every number of 16 bits and some about them, awaited by the front: never issued, done, its own, the other's, and 0.
 #[test]
 fn every_number_awaited() {
     let table = waiters().table;
@@ -347,8 +347,40 @@ fn every_number_awaited() {
         let block = idle(40_000, &[(300, 6, 0), (4, 1, 300)], number);
         coverage.check(&from_block(&table, block, &[]), format_args!("{number} awaited"));
     }
-    // 40,000 issued but for the two that are live, and those two alone.
-    assert_eq!((coverage.whys[&25], coverage.ends[&1]), (39_998, 2), "{coverage}");
+    // 0 and the 40,000 issued but for the two that are live; those two; and all others.
+    let counts = (coverage.whys[&25], coverage.ends[&1], coverage.ends[&2]);
+    assert_eq!(counts, (39_999, 2, 170_004), "{coverage}");
+}
+
+/// The same numbers, awaited by the only task when it is tried: of those never issued 0 alone passes.
+#[test]
+fn every_number_tried() {
+    let table = waiters().table;
+    let mut coverage = Coverage::default();
+    for number in (-70_000..=140_000).chain([i32::MIN, i32::MIN + 1, i32::MAX - 1, i32::MAX]) {
+        let block = idle(40_000, &[(300, 6, 0)], number);
+        coverage.check(&from_block(&table, block, &[1]), format_args!("{number} tried"));
+    }
+    // 0 and the 40,000 issued but for its own; and all others.
+    assert_eq!((coverage.records[&2], coverage.runs[&2]), (40_000, 170_005), "{coverage}");
+}
+
+/// Queues of every length in which one task, at each place, awaits a 0 and the others numbers never issued: it is taken
+/// up behind as many turns as stand before it.
+#[test]
+fn every_place_of_an_await_of_a_0() {
+    let table = waiters().table;
+    let mut coverage = Coverage::default();
+    for (live, at) in (1..=TASKS as u16).flat_map(|live| (1..=live).map(move |at| (live, at))) {
+        let awaited = |task| if task == at { 0 } else { -i32::from(task) };
+        let queue: Vec<_> = (1..=live).map(|task| (1_000 + task, 1, awaited(task))).collect();
+        let call = Call { budget: at.into(), log: vec![0xa5; 8 * TASKS] };
+        let case = Case { calls: vec![call], ..from_block(&table, idle(2_000, &queue, 0), &[]) };
+        coverage.check(&case, format_args!("{live} live, the one at {at} awaits a 0"));
+    }
+    // One is taken up in each; before it all those ahead are turned.
+    let turns = (1..=32).map(|live| live * (live - 1) / 2).sum();
+    assert_eq!((coverage.records[&2], coverage.records[&5]), (528, turns), "{coverage}");
 }
 
 /// Every length of the output, for a state that is stuck and for one that is not, and where table or block is at fault.
@@ -371,7 +403,7 @@ fn every_length_of_a_chain() {
 }
 
 /// Rows of tasks of every length, each waiting for the next by its parameter; the last waits for each of them, at a
-/// guard, for a number never issued, or for a done one.
+/// guard, for a number never issued, for a done one, or for 0.
 #[test]
 fn every_long_chain() {
     let table = waiters().table;
@@ -381,7 +413,7 @@ fn every_long_chain() {
         let mut numbers: Vec<u16> = (0..live).map(|i| 1_000 + 3 * i).collect();
         random.shuffle(&mut numbers);
         let own = |number: &u16| (1, i32::from(*number));
-        for last in numbers.iter().map(own).chain([(3, 0), (1, 2_001), (1, 1_001)]) {
+        for last in numbers.iter().map(own).chain([(3, 0), (1, 2_001), (1, 1_001), (1, 0)]) {
             let waits = numbers[1..].iter().map(own).chain([last]);
             let row = numbers.iter().zip(waits).map(|(number, (place, value))| (*number, place, value));
             let mut queue: Vec<_> = row.collect();
@@ -391,5 +423,5 @@ fn every_long_chain() {
         }
     }
     assert_eq!(Vec::from_iter(coverage.ends.values()), [&528, &32, &32], "{coverage}");
-    assert!(coverage.chains.len() == 33 && coverage.whys[&25] == 32, "{coverage}");
+    assert!(coverage.chains.len() == 33 && coverage.whys[&25] == 64, "{coverage}");
 }

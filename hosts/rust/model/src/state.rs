@@ -68,11 +68,13 @@ impl State {
         }
     }
 
-    /// "A number is done if it has been issued and its task is not live."
+    /// "A number is done if it has been issued and its task is not live"; "0 counts as done" (request 2.7 of document
+    /// 02).
     #[inline]
     pub fn is_done(&self, number: i32) -> bool {
         match u16::try_from(number) {
-            Ok(number) => (1..=self.issued).contains(&number) && !self.tasks.has(number),
+            Ok(0) => true,
+            Ok(number) => number <= self.issued && !self.tasks.has(number),
             Err(_) => false,
         }
     }

@@ -74,7 +74,7 @@ fn write_chain(recipe: &Recipe, state: &State, chain: &mut [[u8; 2]]) -> (usize,
 }
 
 /// The live task that a waiting one waits for, by how many stand before it; else what the chain ends in. The number is
-/// not done, so one that no live task has was never issued.
+/// not done, so it is not 0, and one that no live task has was never issued.
 fn next(recipe: &Recipe, state: &State, task: &Task) -> Result<usize, End> {
     match recipe.at(task.place) {
         Node::Await { name, .. } => {

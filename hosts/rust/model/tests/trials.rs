@@ -1,5 +1,5 @@
 //! The rows "From the trial press", rows for guards, for zero divisors, for the chains of stuck states, for batches of
-//! recipes and for who started a task, and the readings that look natural and are wrong.
+//! recipes, for who started a task and for optional tasks, and the readings that look natural and are wrong.
 
 use recipe_model::{check_all, print, run, start, why_stuck, Answer, Explained, Started};
 
@@ -76,6 +76,9 @@ const A: [Row; 9] = [
     (10, 64, 0, 0),
 ];
 
+/// Main awaits a 0 and ends: "wait, taken, ended".
+const PASSES: [Line; 3] = [(4, 1, 0, 0), (2, 1, 0, 0), (6, 1, 0, 0)];
+
 const F: [Row; 6] = [(1, 0, 4, 0), (5, 0, 3, 0), (9, 0, 0, 1), (6, 8, 1, 1), (9, 0, 0, 0), (1, 0, 0, 0)];
 
 #[test]
@@ -126,8 +129,12 @@ fn b_turns_one_waiter() {
 }
 
 #[test]
-fn c_and_d_are_stuck() {
-    assert_eq!(ending(&[(1, 0, 1, 0), (8, 8, 0, 0)]), (2, 1));
+fn c_waits_is_taken_and_ends() {
+    assert_eq!(trial(&[(1, 0, 1, 0), (8, 8, 0, 0)], 10_000), (0, 3, PASSES.to_vec()));
+}
+
+#[test]
+fn d_is_stuck() {
     assert_eq!(ending(&[(1, 0, 3, 0), (3, 8, 1, 0), (9, 0, 0, 1), (8, 8, 0, 0)]), (2, 2));
 }
 
@@ -230,9 +237,11 @@ fn an_empty_body_is_run_through() {
 
 #[test]
 fn the_awaited_variable_is_read_at_each_try() {
-    // Main awaits variable 8, which is 0; task 2 later sets it to 3, the number of a task that has ended.
+    // Main awaits variable 8, which is 9; task 2 later sets it to 3, the number of a task that has ended.
     let rows = [
-        (1, 0, 5, 0),
+        (1, 0, 7, 0),
+        (3, 8, 1, 0),
+        (9, 0, 0, 9),
         (6, 9, 1, 1),
         (9, 0, 0, 0),
         (6, 10, 1, 2),
@@ -245,8 +254,8 @@ fn the_awaited_variable_is_read_at_each_try() {
         (1, 0, 0, 0),
     ];
     let (number, steps, lines) = trial(&rows, 100);
-    assert_eq!((number, steps), (0, 13));
-    assert_eq!(lines.iter().filter(|line| line.0 == 5).collect::<Vec<_>>(), [&(5, 1, 0, 0)]);
+    assert_eq!((number, steps), (0, 14));
+    assert_eq!(lines.iter().filter(|line| line.0 == 5).collect::<Vec<_>>(), [&(5, 1, 0, 9)]);
 }
 
 #[test]
@@ -562,8 +571,7 @@ fn idle(issued: u16, queue: &[(u16, u16, i32)]) -> Vec<u8> {
 }
 
 #[test]
-fn the_chains_of_c_and_d() {
-    assert_eq!(chain_after(&[(1, 0, 1, 0), (8, 8, 0, 0)]), (vec![1], 2));
+fn the_chain_of_d() {
     assert_eq!(chain_after(&[(1, 0, 3, 0), (3, 8, 1, 0), (9, 0, 0, 1), (8, 8, 0, 0)]), (vec![1, 1], 1));
 }
 
@@ -600,14 +608,14 @@ fn a_chain_may_end_at_a_guard() {
 
 #[test]
 fn a_chain_goes_on_to_a_live_task_and_ends_at_a_number_never_issued() {
-    // With 4 issued and tasks 1 and 3 live, 2 and 4 are done. Task 3 waits for task 1.
+    // With 4 issued and tasks 1 and 3 live, 0, 2 and 4 are done. Task 3 waits for task 1.
     for awaited in (-4..=9).chain([i32::MIN, -65_533, 65_535, 65_536, 65_537, 65_539, i32::MAX]) {
         let given = explained(&table(&WAITERS), &idle(4, &[(1, OWN, awaited), (3, OWN, 1)]));
         let accepted = |count, end| Explained { number: 0, count, end, place: 0 };
         let expected = match awaited {
             1 => (accepted(2, 1), vec![1, 1]),
             3 => (accepted(3, 1), vec![1, 3, 1]),
-            2 | 4 => (NOT_STUCK, vec![]),
+            0 | 2 | 4 => (NOT_STUCK, vec![]),
             _ => (accepted(1, 2), vec![1]),
         };
         assert_eq!(given, expected, "{awaited}");
@@ -661,6 +669,10 @@ fn states_that_are_not_stuck() {
         idle(3, &[(1, OWN, 1), (2, GUARD, -1)]),
         idle(3, &[(1, GUARD, 0), (2, SHARE, 5)]),
         idle(3, &[(1, OWN, 2), (2, OWN, 3)]),
+        // One awaits a 0, in its parameter or in a variable, behind the front and at it.
+        idle(3, &[(1, OWN, 1), (2, OWN, 0)]),
+        idle(3, &[(2, OWN, 0), (1, OWN, 1)]),
+        idle(3, &[(1, OWN, 1), (2, SHARED, 1)]),
         // At a procedure's end.
         idle(3, &[(1, OWN, 1), (2, 14, 0)]),
         active,
@@ -1006,4 +1018,86 @@ fn a_state_of_another_size_is_refused() {
         let refused = Answer { number: 21, steps: 0, records: 0, place: 0 };
         assert_eq!(run_from(&table, &mut state, 9), (refused, vec![]), "{length}");
     }
+}
+
+/// Main of a set of variable 8 and an await of it.
+fn set_and_await(value: i32) -> Vec<Row> {
+    main_of(&[&around(3, 8, 0, &[&[(9, 0, 0, value)]]), &[(8, 8, 0, 0)]])
+}
+
+#[test]
+fn of_the_numbers_never_issued_only_0_is_done() {
+    assert_eq!(trial(&set_and_await(0), 100), (0, 4, PASSES.to_vec()));
+    // Main's own number, numbers never issued, and such as are 0 in their lower bytes.
+    for awaited in [1, 2, 256, 65_535, 65_536, 0x0100_0000, i32::MAX, -1, -256, -65_536, i32::MIN] {
+        assert_eq!(trial(&set_and_await(awaited), 100), (2, 2, vec![(4, 1, 0, awaited)]), "{awaited}");
+    }
+}
+
+#[test]
+fn each_name_may_hold_the_0() {
+    for name in 0..=64 {
+        assert_eq!(trial(&[(1, 0, 1, 0), (8, name, 0, 0)], 100), (0, 3, PASSES.to_vec()), "{name}");
+    }
+}
+
+#[test]
+fn an_optional_task_holds_main_only_if_it_was_spawned() {
+    // Main spawns the task if the number is not 0, awaits variable 8 in either case, and sets valve 0.
+    let optional = |wanted| {
+        let spawn = around(6, 8, 1, &[&[(9, 0, 0, 4)]]);
+        let main = [around(4, 0, 0, &[&[(9, 0, 0, wanted)], &spawn]), around(3, 0, 0, &[&[(9, 0, 0, 5)]])];
+        [main_of(&[&main[0], &[(8, 8, 0, 0)], &main[1]]), vec![(1, 0, 0, 0)]].concat()
+    };
+    let last = [(2, 1, 0, 0), (7, 1, 0, 5), (6, 1, 0, 0)];
+    let without = [&[(4, 1, 0, 0)], &last[..]].concat();
+    let with = [&[(1, 1, 0, 2), (4, 1, 0, 2), (2, 2, 0, 0), (6, 2, 0, 0)], &last[..]].concat();
+    assert_eq!(trial(&optional(0), 100), (0, 5, without));
+    assert_eq!(trial(&optional(1), 100), (0, 8, with));
+}
+
+#[test]
+fn an_await_of_a_0_joins_the_back_first() {
+    // Main awaits variable 8, which is 0, behind task 2, which sets valve 1 before main goes on.
+    let main = main_of(&[&around(6, 9, 1, &[&[(9, 0, 0, 7)]]), &[(8, 8, 0, 0)]]);
+    let child = around(1, 0, 0, &[&around(3, 1, 0, &[&[(10, 64, 0, 0)]])]);
+    let lines = vec![(1, 1, 0, 2), (4, 1, 0, 0), (2, 2, 0, 0), (7, 2, 1, 7), (6, 2, 0, 0), (2, 1, 0, 0), (6, 1, 0, 0)];
+    assert_eq!(trial(&[main, child].concat(), 100), (0, 7, lines));
+    // Reached by a suspend it is tested when tried, with no wait before.
+    let lines = vec![(3, 1, 0, 0), (2, 1, 0, 0), (6, 1, 0, 0)];
+    assert_eq!(trial(&main_of(&[&[(7, 0, 0, 0)], &[(8, 8, 0, 0)]]), 100), (0, 3, lines));
+}
+
+/// Main sets variable 8 and awaits it; task 2 sets it again before main is tried.
+fn set_while_main_waits(first: i32, second: i32) -> (u32, u32, Vec<Line>) {
+    let set = |value| around(3, 8, 0, &[&[(9, 0, 0, value)]]);
+    let main = main_of(&[&set(first), &around(6, 9, 1, &[&[(9, 0, 0, 0)]]), &[(8, 8, 0, 0)]]);
+    trial(&[main, around(1, 0, 0, &[&set(second)])].concat(), 100)
+}
+
+#[test]
+fn the_0_counts_that_is_there_at_the_try() {
+    let begin = |awaited| vec![(1, 1, 0, 2), (4, 1, 0, awaited), (2, 2, 0, 0), (6, 2, 0, 0)];
+    let passes = |awaited| [&begin(awaited)[..], &PASSES[1..]].concat();
+    // It becomes 0 between the wait and the try, from a number never issued and from main's own.
+    for first in [9, -1, 1] {
+        assert_eq!(set_while_main_waits(first, 0), (0, 8, passes(first)), "{first}");
+    }
+    // It stops being 0: then it holds a number that holds main, or one that is done.
+    for second in [9, -1, 1] {
+        assert_eq!(set_while_main_waits(0, second), (2, 6, begin(0)), "{second}");
+    }
+    assert_eq!(set_while_main_waits(0, 2), (0, 8, passes(0)));
+}
+
+#[test]
+fn a_host_may_write_the_0() {
+    let table = table(&set_and_await(9));
+    let mut state = fresh(&table);
+    assert_eq!(run_from(&table, &mut state, 100).0.number, 2);
+    assert_eq!(chain_of(&table, &state), (vec![1], 2));
+    state[VARIABLES + 4 * 8] = 0;
+    assert_eq!(explained(&table, &state), (NOT_STUCK, vec![]));
+    let finished = Answer { number: 0, steps: 2, records: 2, place: 0 };
+    assert_eq!(run_from(&table, &mut state, 100), (finished, PASSES[1..].to_vec()));
 }

@@ -78,6 +78,11 @@ The text is in one of two notations. A \"#\" begins a comment in both.
   x / 0 has no value, nor has an expression that holds it: a set, if, while or
   spawn of it stops the run, a guard of it is untrue.
 
+  A task at an await joins the back of the ready queue. It goes on when it is
+  tried and the number in the variable is done: it was issued and its task has
+  ended, or it is 0. So a task may be optional: a variable left at 0 names none,
+  and its await passes.
+
   valve0 to valve7 are the variables 0 to 7. Other variables get numbers from
   8 up in the order of their first use, at most 56 of them; \"variable NAME
   NUMBER\" gives one a number from 0 to 63. The parameter is called
@@ -115,7 +120,8 @@ usage: recipe run [FILE] [OPTIONS]
 Runs a table, or text whose name ends in \".recipe\". Prints a line for each log
 record (kind, task, valve, value), then the ending and the steps; or \"refused\"
 with number and place (exit status 1). The value of \"waits\" and \"turned\" is the
-number awaited, 0 at a guard. Standard error tells more of two endings: of
+number awaited, 0 at a guard; an await of a variable that holds 0 waits with 0,
+too, and passes when it is tried. Standard error tells more of two endings: of
 \"novalue\" the statement, by its line, or its record where the file is a table;
 of \"stuck\" who waits for whom, as \"recipe why\" does.
 
@@ -148,8 +154,8 @@ TABLE is a table, or text whose name ends in \".recipe\"; STATE is the file that
 
 The record is that of the await or guard, the variable has the number awaited;
 of text the line is told, too. The last line tells what the chain ends in: a
-task named before, which closes a circle; a number that was never issued; or a
-guard that is untrue, as one that divides by 0 is, too.
+task named before, which closes a circle; a number that was never issued and is
+not 0; or a guard that is untrue, as one that divides by 0 is, too.
 
 A state that is not stuck is refused (exit status 1). A refused table or state
 is told as by \"recipe run --resume\".

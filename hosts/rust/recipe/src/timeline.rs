@@ -211,15 +211,15 @@ mod tests {
     fn a_turn_and_a_stuck_end_tell_that_a_task_waits() {
         let spawned = [2, 3, 4].map(|task| (Kind::Spawned, 1, 0, task, false));
         let log = [&spawned[..], &[(Kind::Ended, 1, 0, 0, false), (Kind::Turned, 2, 0, 9, false)]].concat();
-        let standing = [(2, Wait::Await(8)), (3, Wait::Guard), (4, Wait::Await(0))];
+        let standing = [(2, Wait::Await(8)), (3, Wait::Guard), (4, Wait::Await(-1))];
         let bar = |doing, from| [Bar { doing, from, to: None }];
         let stuck = Timeline::of(&course(&log, Ending::Stuck, &standing));
         // The bar keeps the number at the turn; the lane's end has the one of the last state.
         assert_eq!(stuck.lanes[&2].bars, bar(Doing::Waits(Wait::Await(9)), 0.5));
         assert_eq!(stuck.lanes[&3].bars, bar(Doing::Waits(Wait::Guard), 1.5));
-        assert_eq!(stuck.lanes[&4].bars, bar(Doing::Waits(Wait::Await(0)), 2.5));
+        assert_eq!(stuck.lanes[&4].bars, bar(Doing::Waits(Wait::Await(-1)), 2.5));
         let held = [1, 2, 3, 4].map(|task| stuck.lanes[&task].held);
-        assert_eq!(held, [None, Some(Wait::Await(8)), Some(Wait::Guard), Some(Wait::Await(0))]);
+        assert_eq!(held, [None, Some(Wait::Await(8)), Some(Wait::Guard), Some(Wait::Await(-1))]);
         let paused = Timeline::of(&course(&log, Ending::Paused, &standing));
         assert_eq!(paused.lanes[&3].bars, bar(Doing::Queued, 1.5));
         assert!(paused.lanes.values().all(|lane| lane.held.is_none()));
@@ -238,12 +238,16 @@ mod tests {
     #[test]
     fn a_guard_is_told_from_an_await_of_0() {
         for (at_guard, wait) in [(true, Wait::Guard), (false, Wait::Await(0))] {
-            let log = [(Kind::Waits, 1, 0, 0, at_guard), (Kind::Turned, 1, 0, 0, at_guard)];
+            let log = [(Kind::Waits, 1, 0, 0, at_guard)];
             let main = &Timeline::of(&course(&log, Ending::Paused, &[])).lanes[&1];
             assert_eq!(main.bars[1], Bar { doing: Doing::Waits(wait), from: 1.0, to: None });
-            assert_eq!(main.turns, [Turn { at: 1.5, wait }]);
-            // A turn is no taking up.
-            assert_eq!(main.taken_up, 0);
         }
+    }
+
+    #[test]
+    fn a_turn_is_no_taking_up() {
+        let log = [(Kind::Waits, 1, 0, 0, true), (Kind::Turned, 1, 0, 0, true)];
+        let main = &Timeline::of(&course(&log, Ending::Paused, &[])).lanes[&1];
+        assert_eq!((main.turns.as_slice(), main.taken_up), (&[Turn { at: 1.5, wait: Wait::Guard }][..], 0));
     }
 }

@@ -19,7 +19,9 @@ valve 1 0 1
 ended 1 0 0
 finished 8
 ";
-const STUCK: &str = "procedure main\n  await x\n";
+const STUCK: &str = "procedure main\n  set x 7\n  await x\n";
+/// Awaits a variable that holds 0.
+const NOBODY: &str = "procedure main\n  await x\n";
 const AT_GUARD: &str = "procedure main\n  guard x\n";
 /// Divides by a variable that is 0, in the second statement, at record 3.
 const SHARE: &str = "procedure main\n  set valve1 1\n  set valve0 6 / sensors\n";
@@ -64,12 +66,25 @@ fn a_timeline_tells_guards_from_awaits() {
     let d = directory("waits");
     for (text, told, other) in [
         (AT_GUARD, "task 1: waits at a guard", "task 1: awaits"),
-        (STUCK, "task 1: awaits 0", "task 1: waits at a guard"),
+        (STUCK, "task 1: awaits 7", "task 1: waits at a guard"),
     ] {
         fs::write(d.join("t.recipe"), text).unwrap();
         let drawn = stdout(&recipe(&d, &["timeline", "t.recipe"], b""));
         assert!(drawn.contains(told) && !drawn.contains(other), "{drawn}");
     }
+}
+
+#[test]
+fn an_await_of_a_0_passes_when_it_is_tried() {
+    let d = directory("nobody");
+    fs::write(d.join("t.recipe"), NOBODY).unwrap();
+    let ran = recipe(&d, &["run", "t.recipe", "--strict"], b"");
+    let printed = "waits 1 0 0\ntaken 1 0 0\nended 1 0 0\nfinished 3\n";
+    assert_eq!((status(&ran), &*stdout(&ran), &*stderr(&ran)), (0, printed, ""));
+    // It has joined the back, and is no stuck state there.
+    let paused = recipe(&d, &["run", "t.recipe", "--budget", "1", "--save", "state"], b"");
+    assert_eq!(stdout(&paused), "waits 1 0 0\npaused 1\n");
+    assert_eq!(stdout(&recipe(&d, &["why", "t.recipe", "state"], b"")), "refused 25 0\n");
 }
 
 /// A saved state whose variable is written between two calls, as by a host with a sensor.

@@ -65,7 +65,8 @@ procedure work
     skip
 ";
 
-/// Guards: one that becomes true, one that does not, one that its task stands at from its spawn on; and an await of 0.
+/// Guards: one that becomes true, one that does not, one that its task stands at from its spawn on; and an await of a
+/// number never issued.
 const GUARDS: &str = "\
 procedure main
     spawn a pass 0
@@ -73,6 +74,7 @@ procedure main
     spawn c late 0
     suspend
     set pressure 3
+    set nobody 99
     await nobody
 procedure pass
     guard 2 < pressure
@@ -84,7 +86,7 @@ procedure late
     guard 4 < pressure
 ";
 
-/// An await of 0 that is turned, and one that its task stands at when all is stuck.
+/// An await of 0 that passes when it is tried, and one that its task stands at from its spawn on.
 const ZERO: &str = "\
 procedure main
     spawn a rest 0
@@ -322,10 +324,11 @@ fn stuck_lanes_end_in_what_their_tasks_wait_for() {
             ][..],
         ),
         (CHANGED, 10_000, &[("task 1", "waits for -2147483648")]),
-        (GUARDS, 10_000, &[("task 1", "waits for 0"), ("task 3", "at a guard"), ("task 4", "at a guard")]),
+        (GUARDS, 10_000, &[("task 1", "waits for 99"), ("task 3", "at a guard"), ("task 4", "at a guard")]),
         // Paused, finished, stopped by a missing value.
         (CIRCLE, 9, &[]),
         (TWO, 100, &[]),
+        (ZERO, 100, &[]),
         (DIVISOR, 10_000, &[]),
     ] {
         let (document, _) = picture(text, budget);
@@ -364,9 +367,9 @@ fn guards_and_awaits_are_told_apart() {
         "stuck, ",
         ">waits at an await<",
         ">waits at a guard<",
-        ">awaits 0<",
+        ">awaits 99<",
         ">guard<",
-        "task 1: awaits 0",
+        "task 1: awaits 99",
         "task 2: waits at a guard",
         "task 2 turned: its guard is not true",
         "task 3: waits at a guard",
@@ -377,9 +380,10 @@ fn guards_and_awaits_are_told_apart() {
     assert!(!document.contains("task 2: awaits"));
     assert!(!document.contains("task 1: waits at a guard"));
     let (document, _) = picture(ZERO, 10_000);
-    for part in ["task 1: awaits 0", "task 1 turned: 0 is not done", "task 3: awaits 0"] {
+    for part in ["finished, ", ">awaits 0<", "task 1: awaits 0", "task 3: in the ready queue", "task 3 ended"] {
         assert!(document.contains(part), "{part}");
     }
+    assert!(!document.contains("turned: ") && !document.contains("task 3: awaits"));
     // The legend has the only one.
     assert_eq!(document.matches("class=\"guard\"").count(), 1);
 }

@@ -6,10 +6,10 @@ use std::path::{Path, PathBuf};
 use recipe::asm::assemble;
 use recipe_runner::{Ending, State};
 
-const RECIPES: [(&str, Ending, u32); 10] = [
+const RECIPES: [(&str, Ending, u32); 11] = [
     ("a", Ending::Finished, 8),
     ("b", Ending::Finished, 9),
-    ("c", Ending::Stuck, 1),
+    ("c", Ending::Finished, 3),
     ("d", Ending::Stuck, 2),
     ("e", Ending::Finished, 1),
     ("f", Ending::Tasks, 63),
@@ -17,6 +17,7 @@ const RECIPES: [(&str, Ending, u32); 10] = [
     ("deadlock", Ending::Stuck, 9),
     ("guard", Ending::Finished, 22),
     ("novalue", Ending::Novalue { place: 5 }, 2),
+    ("optional", Ending::Finished, 29),
 ];
 
 fn directory() -> PathBuf {

@@ -84,7 +84,10 @@ fn each_end_is_told() {
             "procedure main\n  set x 1\n  await x\n",
             "task 1 waits for itself (record 3, variable 8): a circle of 1 task\n",
         ),
-        ("procedure main\n  await x\n", "task 1 waits for number 0, which was never issued (record 1, variable 8)\n"),
+        (
+            "procedure main\n  set x 65536\n  await x\n",
+            "task 1 waits for number 65536, which was never issued (record 3, variable 8)\n",
+        ),
         (
             "procedure main\n  set valve3 -2147483648\n  spawn x a 1\n  await valve3\nprocedure a\n  await parameter\n",
             "task 2 waits for task 1 (record 7, its parameter)\n\
@@ -147,7 +150,7 @@ fn a_text_has_its_lines_told() {
 #[test]
 fn states_that_are_not_stuck_are_refused() {
     let d = directory("why_not");
-    // A task is active; none is left; one is ready, since its variable was written after the run.
+    // A task is active; none is left; one is ready, since its variable was written after the run: a reading, then 0.
     let text = "procedure main\n  while 1\n    skip\n";
     assert!(saved(&d, text).starts_with("paused "));
     let refused = |file: &str| {
@@ -163,6 +166,11 @@ fn states_that_are_not_stuck_are_refused() {
     state[VARIABLES_AT + 8 * VARIABLE] = 1;
     fs::write(d.join("state"), state).unwrap();
     refused("raw.recipe");
+    assert_eq!(saved(&d, "procedure main\n  set x 7\n  await x\n"), "stuck 2");
+    let mut state = fs::read(d.join("state")).unwrap();
+    state[VARIABLES_AT + 8 * VARIABLE] = 0;
+    fs::write(d.join("state"), state).unwrap();
+    refused("t.table");
 }
 
 /// The table's faults come first, then the state's length, then its records.
@@ -251,7 +259,10 @@ fn hold_true(table: &[u8], state: &State, lines: &[String]) {
         next = number.or((holder == "for itself").then_some(task));
         match (awaited, next) {
             (Some(awaited), Some(next)) => assert_eq!(awaited, i32::from(next), "{line}"),
-            (Some(awaited), None) => assert_eq!(holder, format!("for number {awaited}, which was never issued")),
+            (Some(awaited), None) => {
+                assert_ne!(awaited, 0);
+                assert_eq!(holder, format!("for number {awaited}, which was never issued"));
+            }
             (None, _) => assert_eq!(holder, "at a guard that is untrue"),
         }
     }
@@ -282,7 +293,7 @@ fn lines_of_generated_tables_are_true() {
             ends[lines(&table, &state).1] += 1;
         }
     }
-    assert!(ends[0] > 0 && ends[1] > 300 && ends[2] > 300, "{ends:?}");
+    assert!(ends[0] > 30 && ends[1] > 300 && ends[2] > 300, "{ends:?}");
 }
 
 /// An await of each name, and a guard.
@@ -301,7 +312,7 @@ fn crowd(random: &mut Random) -> State {
     }
     numbers.truncate(1 + random.below(32));
     let mut value = || match random.below(20) {
-        0 => random.pick(&[0, -1, i32::MIN, i32::MAX, issued as i32 + 1]),
+        0 => random.pick(&[-1, i32::MIN, i32::MAX, 65_536, issued as i32 + 1]),
         _ => i32::from(random.pick(&numbers)),
     };
     let values: Vec<i32> = (0..96).map(|_| value()).collect();

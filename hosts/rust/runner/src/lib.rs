@@ -244,7 +244,7 @@ pub struct Ran {
 pub enum End {
     /// In a task named earlier: the tasks from there on wait in a circle.
     NamedEarlier,
-    /// In a task that waits for a number never issued.
+    /// In a task that waits for a number never issued, which is not 0.
     NeverIssued,
     /// In a task at an untrue guard.
     UntrueGuard,
@@ -560,11 +560,15 @@ mod tests {
     const CIRCLE: [[u8; 8]; 4] =
         [[1, 0, 3, 0, 0, 0, 0, 0], [3, 8, 1, 0, 0, 0, 0, 0], [9, 0, 0, 0, 1, 0, 0, 0], [8, 8, 0, 0, 0, 0, 0, 0]];
 
+    /// Main waits for number 7.
+    const NEVER_ISSUED: [[u8; 8]; 4] =
+        [[1, 0, 3, 0, 0, 0, 0, 0], [3, 8, 1, 0, 0, 0, 0, 0], [9, 0, 0, 0, 7, 0, 0, 0], [8, 8, 0, 0, 0, 0, 0, 0]];
+
     #[test]
     fn a_stuck_state_has_a_chain() {
         for (table, chain) in [
             (CIRCLE.to_vec(), Chain { tasks: vec![1, 1], end: End::NamedEarlier }),
-            (vec![[1, 0, 1, 0, 0, 0, 0, 0], [8, 8, 0, 0, 0, 0, 0, 0]], Chain { tasks: vec![1], end: End::NeverIssued }),
+            (NEVER_ISSUED.to_vec(), Chain { tasks: vec![1], end: End::NeverIssued }),
             (GUARD.to_vec(), Chain { tasks: vec![1], end: End::UntrueGuard }),
         ] {
             let table = table.concat();
@@ -573,6 +577,24 @@ mod tests {
             assert_eq!(state.run(&table, 100, &mut [0; 64]).unwrap().ending, Ending::Stuck);
             assert_eq!(state.why_stuck(&table), Ok(chain));
         }
+    }
+
+    /// A variable is 0 in a fresh state, and may be written so between two calls.
+    #[test]
+    fn an_await_of_a_0_passes_when_it_is_tried() {
+        let table = [[1, 0, 1, 0, 0, 0, 0, 0], [8, 8, 0, 0, 0, 0, 0, 0]].concat();
+        let mut log = [0; 64];
+        let ran = State::start(&table).unwrap().run(&table, 100, &mut log).unwrap();
+        assert_eq!(ran, Ran { ending: Ending::Finished, steps: 3, records: 3 });
+        let lines: Vec<_> = records(&log, ran.records).map(|record| record.to_string()).collect();
+        assert_eq!(lines, ["waits 1 0 0", "taken 1 0 0", "ended 1 0 0"]);
+        let table = NEVER_ISSUED.concat();
+        let mut state = State::start(&table).unwrap();
+        assert_eq!(state.run(&table, 100, &mut log).unwrap().ending, Ending::Stuck);
+        let mut state = with_variable_8(&state, 0);
+        assert_eq!(state.why_stuck(&table), Err(Refusal { number: 25, place: 0 }));
+        let ran = state.run(&table, 100, &mut log).unwrap();
+        assert_eq!(ran, Ran { ending: Ending::Finished, steps: 2, records: 2 });
     }
 
     #[test]

@@ -8,6 +8,8 @@ mod chains;
 
 mod divisors;
 
+mod optional;
+
 mod orders;
 
 mod prints;
@@ -102,6 +104,7 @@ pub fn suite(vectors: &[Vector]) -> Vec<Case> {
     runs::sweep(&mut suite);
     starters::sweep(&mut suite);
     waits::sweep(&mut suite);
+    optional::sweep(&mut suite);
     divisors::sweep(&mut suite);
     chains::sweep(&mut suite);
     batches::sweep(&mut suite);

@@ -125,10 +125,19 @@ impl Generator {
                 let (name, procedure) = (8 + self.random.below(57) as u8, self.random.below(self.procedures.min(256)));
                 self.enclosing(6, name, procedure as i32, |g| g.expression(depth + 1));
             }
-            8 => self.records.push(record(8, name, 0, 0)),
+            8 => self.wait(depth, name),
             13 => self.enclosing(13, 0, 0, |g| g.expression(depth + 1)),
             _ => self.records.push(record(kind, 0, 0, 0)),
         }
+    }
+
+    /// An await; where there is room, often behind a set of its variable, which else mostly holds 0 and holds no task up.
+    fn wait(&mut self, depth: usize, name: u8) {
+        if depth < DEEPEST && self.random.below(2) == 0 {
+            let number = self.random.pick(&[i32::MIN, -1, 1, 2, 3, 65_536, i32::MAX]);
+            self.enclosing(3, name, 0, |g| g.records.push(record(9, 0, 0, number)));
+        }
+        self.records.push(record(8, name, 0, 0));
     }
 
     fn expression(&mut self, depth: usize) {

@@ -43,12 +43,12 @@ fn row(numbers: &[u16], last: (u16, i32)) -> Vec<Task> {
     numbers.iter().zip(waits).map(|(number, (place, parameter))| (*number, place, parameter)).collect()
 }
 
-/// The state of tasks that wait, of which the front is the first.
+/// The state of tasks that wait, of which the front is the first; variable 8 holds a number never issued.
 fn why(suite: &mut Suite, tasks: &[Task]) {
-    suite.why_stuck(&table(&waiters()), block(1_000, false, tasks, &[]), log(CHAIN));
+    suite.why_stuck(&table(&waiters()), block(1_000, false, tasks, &[(8, 1_001)]), log(CHAIN));
 }
 
-/// The rows "From the trial press": the states that C and D are stuck in, and each row's first state.
+/// The rows "From the trial press": each row's first state, the one in which C awaits a 0, and the one that D is stuck in.
 fn rows(suite: &mut Suite) {
     let rows: [&[Row]; 6] = [&A, &B, &C, &D, &E, &F];
     for rows in rows {
@@ -58,8 +58,8 @@ fn rows(suite: &mut Suite) {
     suite.why_stuck(&table(&D), block(1, false, &[(1, 3, 0)], &[(8, 1)]), log(CHAIN));
 }
 
-/// The numbers about those issued, with 5 issued and 1 and 2 live, and such as are equal in their lower bytes: awaited
-/// by the front in a variable and in its parameter, and by a second task.
+/// 0 and the numbers about those issued, with 5 issued and 1 and 2 live, and such as are equal in their lower bytes:
+/// awaited by the front in a variable and in its parameter, and by a second task.
 fn numbers(suite: &mut Suite) {
     let recipe = table(&waiters());
     for value in [i32::MIN, -65_535, -2, -1, 0, 1, 2, 3, 5, 6, 255, 257, 258, 65_535, 65_536, 65_537, 65_538, i32::MAX]
@@ -126,7 +126,7 @@ fn circles(suite: &mut Suite) {
 fn ends(suite: &mut Suite) {
     for live in 1..=32 {
         let numbers: Vec<u16> = (0..live).map(|i| 900 - i).collect();
-        for last in [(OWN, 0), (OWN, 1_001), (SHARED, -1), (GUARD, 0), (SHARE, 0), (SHARE, 101)] {
+        for last in [(OWN, -1), (OWN, 65_536), (SHARED, 0), (GUARD, 0), (SHARE, 0), (SHARE, 101)] {
             let mut tasks = row(&numbers, last);
             tasks[1..].reverse();
             why(suite, &tasks);
@@ -142,14 +142,14 @@ fn ends(suite: &mut Suite) {
 /// active; or none is live.
 fn ready(suite: &mut Suite) {
     let recipe = table(&waiters());
-    let ways = [(GIVES_WAY, 0), (END, 0), (OWN, 7), (GUARD, 1), (GUARD, i32::MIN), (SHARE, 100), (SHARE, -7)];
+    let ways = [(GIVES_WAY, 0), (END, 0), (OWN, 7), (OWN, 0), (GUARD, 1), (GUARD, i32::MIN), (SHARE, 100), (SHARE, -7)];
     for (live, at) in [(1, 1), (2, 1), (2, 2), (3, 2), (32, 1), (32, 16), (32, 31), (32, 32)] {
         for (place, parameter) in ways {
             let mut tasks: Vec<Task> = (1..=live).map(|i| (100 + i, OWN, i32::from(100 + i % live + 1))).collect();
             (tasks[at - 1].1, tasks[at - 1].2) = (place, parameter);
             why(suite, &tasks);
         }
-        let tasks: Vec<Task> = (1..=live).map(|i| (100 + i, OWN, 0)).collect();
+        let tasks: Vec<Task> = (1..=live).map(|i| (100 + i, OWN, -1)).collect();
         for active in [true, false] {
             suite.why_stuck(&recipe, block(200, active, &tasks, &[]), log(CHAIN));
         }

@@ -155,7 +155,10 @@ fn guards(suite: &mut Suite) {
 fn queues(suite: &mut Suite) {
     let recipe = table(&guarded());
     for (live, ready) in [(3, 3), (3, 4), (32, 32), (32, 33)] {
-        let task = |i: u16| (100 + i, if i == 2 { 23 } else { 10 }, i32::from(i == ready) * 7);
+        let task = |i: u16| match i {
+            2 => (102, 23, -1),
+            _ => (100 + i, 10, i32::from(i == ready) * 7),
+        };
         let tasks: Vec<Task> = (1..=live).map(task).collect();
         for (budget, length) in [(0, 0), (u32::from(ready) - 1, 400), (90, 8 * usize::from(ready) - 8), (90, 800)] {
             suite.run(&recipe, block(200, false, &tasks, &[]), budget, log(length));

@@ -74,8 +74,11 @@ fn budgets(suite: &mut Suite) {
     for count in [4_998, 4_999, 5_000] {
         suite.print(&procedure(&[rounds(count, &[])]));
         suite.print(&procedure(&[rounds(count, &[]), skip()]));
-        suite.print(&procedure(&[rounds(count, &[]), wait(9)]));
-        suite.print(&procedure(&[rounds(count, &[]), skip(), wait(9)]));
+        // Variable 8 then holds a number never issued, variable 9 holds 0.
+        for name in [8, 9] {
+            suite.print(&procedure(&[rounds(count, &[]), wait(name)]));
+            suite.print(&procedure(&[rounds(count, &[]), skip(), wait(name)]));
+        }
     }
     for count in [4_967, 4_968] {
         for tail in [vec![], skip()] {
@@ -95,7 +98,9 @@ fn logs(suite: &mut Suite) {
         let tail = set(0, constant(-1)).repeat(more);
         suite.print(&procedure(&[rounds(273, &sets), tail.clone()]));
         suite.print(&procedure(&[rounds(273, &sets), tail.clone(), suspend()]));
-        suite.print(&procedure(&[rounds(273, &sets), tail, wait(9)]));
+        for name in [8, 9] {
+            suite.print(&procedure(&[rounds(273, &sets), tail.clone(), wait(name)]));
+        }
     }
     suite.print(&procedure(&[forever(&[set(0, constant(-5))])]));
     suite.print(&procedure(&[forever(&[suspend()])]));

@@ -61,7 +61,7 @@ pub fn spent(suite: &mut Suite) {
 /// Rows A to F with budgets up to one past their steps, with logs up to 17 bytes past their records (the first ones and
 /// the last ones), and over calls of all sorts.
 pub fn budgets_and_logs(suite: &mut Suite) {
-    let rows: [(&[Row], u32, usize); 6] = [(&A, 8, 8), (&B, 9, 9), (&C, 1, 1), (&D, 2, 1), (&E, 1, 1), (&F, 63, 31)];
+    let rows: [(&[Row], u32, usize); 6] = [(&A, 8, 8), (&B, 9, 9), (&C, 3, 3), (&D, 2, 1), (&E, 1, 1), (&F, 63, 31)];
     for (rows, steps, records) in rows {
         let table = table(rows);
         suite.start(&table, old(BLOCK));

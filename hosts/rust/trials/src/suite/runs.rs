@@ -126,8 +126,8 @@ fn bodies(suite: &mut Suite) {
 
 /// Longer recipes step by step, and with every number of records: tasks that spawn, give way, wait and end.
 fn by_step(suite: &mut Suite) {
-    // Main awaits variable 8, which is 0; task 2 later sets it to 3, the number of a task that has ended.
-    let main = procedure(&[spawn(9, 1, constant(0)), spawn(10, 2, constant(0)), wait(8)]);
+    // Main awaits variable 8, a number never issued; task 2 later sets it to 3, the number of a task that has ended.
+    let main = procedure(&[set(8, constant(-1)), spawn(9, 1, constant(0)), spawn(10, 2, constant(0)), wait(8)]);
     let setter = procedure(&[suspend(), set(8, read(10))]);
     let later = [main, setter, procedure(&[])].concat();
     // Two tasks that wait for each other, and one that gives way for some time.

@@ -21,7 +21,7 @@ fn waiters() -> Part {
 }
 
 /// "Waits if its next statement is an await and the variable's value now is not a done number": with 5 issued and 1 and
-/// 2 live, the numbers about these, and such as are equal in their lower bytes. The waiter is alone, with another
+/// 2 live, 0, the numbers about these, and such as are equal in their lower bytes. The waiter is alone, with another
 /// waiter, or with a task that is ready.
 fn numbers(suite: &mut Suite) {
     let recipe = table(&waiters());
@@ -104,7 +104,10 @@ fn truths(suite: &mut Suite) {
 fn guards(suite: &mut Suite) {
     let recipe = table(&guarded());
     for (live, ready) in [(3, 3), (3, 4), (32, 32), (32, 33)] {
-        let task = |i: u16| (100 + i, if i == 2 { 14 } else { 6 }, i32::from(i == ready) * 7);
+        let task = |i: u16| match i {
+            2 => (102, 14, -1),
+            _ => (100 + i, 6, i32::from(i == ready) * 7),
+        };
         let tasks: Vec<Task> = (1..=live).map(task).collect();
         for (budget, length) in [(0, 0), (u32::from(ready) - 1, 400), (90, 8 * usize::from(ready) - 8), (90, 800)] {
             suite.run(&recipe, block(200, false, &tasks, &[]), budget, log(length));
