@@ -4,39 +4,27 @@ use std::ffi::OsString;
 use std::io::{self, BufWriter, Write};
 use std::path::Path;
 
-use recipe_runner::{records, Chain, Ending, Ran, Record, Refusal, State, RECORD, STATE};
+use recipe_runner::{Chain, Record, Refusal, State, RECORD};
 
 use crate::args::{Given, Options};
-use crate::course::Course;
-use crate::failure::{Failure, FAULT, UNFINISHED};
-use crate::files::{self, Loaded, Source};
-use crate::picture::{self, Heading};
-use crate::table::describe_lacking;
-use crate::timeline::Timeline;
+use crate::failure::{Failure, FAULT};
+use crate::files::{self, Loaded};
 use crate::words::quoted;
-use crate::{asm, check, help, listing, raw, state, why};
+use crate::{check, help, listing, raw, saved, state, why};
+
+mod run;
+mod timeline;
 
 /// The budget of a run, unless given.
 const BUDGET: u32 = 10_000;
 /// The log's records, unless given.
 const LOG: u32 = 4_096;
-/// The most records of a run's log, and of a timeline's.
-const LONGEST_LOG: u32 = 1 << 24;
-const LONGEST_TIMELINE: u32 = 1 << 16;
 
 const ASM: Options = Options { command: "asm", files: &["FILE"], valued: &["-o"], flags: &[] };
 const DIS: Options = Options { command: "dis", files: &["FILE"], valued: &[], flags: &["--raw"] };
 const CHECK: Options = Options { command: "check", files: &["FILE..."], valued: &[], flags: &[] };
-const RUN: Options = Options {
-    command: "run",
-    files: &["FILE"],
-    valued: &["--budget", "--log", "--save", "--resume"],
-    flags: &["--quiet", "--strict"],
-};
 const WHY: Options = Options { command: "why", files: &["TABLE", "STATE"], valued: &[], flags: &[] };
 const STATE_OF: Options = Options { command: "state", files: &["FILE"], valued: &[], flags: &[] };
-const TIMELINE: Options =
-    Options { command: "timeline", files: &["FILE"], valued: &["--budget", "--log", "-o"], flags: &[] };
 
 /// Carries out a command line; the exit status is returned, or the failure to tell.
 pub fn dispatch(arguments: &[OsString]) -> Result<u8, Failure> {
@@ -53,10 +41,10 @@ pub fn dispatch(arguments: &[OsString]) -> Result<u8, Failure> {
         "asm" => asm(&ASM.read(rest)?),
         "dis" => dis(&DIS.read(rest)?),
         "check" => check(&CHECK.read(rest)?),
-        "run" => run(&RUN.read(rest)?),
+        "run" => run::run(&run::RUN.read(rest)?),
         "why" => why(&WHY.read(rest)?),
         "state" => show_state(&STATE_OF.read(rest)?),
-        "timeline" => timeline(&TIMELINE.read(rest)?),
+        "timeline" => timeline::timeline(&timeline::TIMELINE.read(rest)?),
         "--help" | "-h" => print(help::TOOL),
         "help" => help(rest),
         "--version" => print(concat!("recipe ", env!("CARGO_PKG_VERSION"), "\n")),
@@ -137,28 +125,6 @@ fn log(records: u32) -> Result<Vec<u8>, Failure> {
     Ok(log)
 }
 
-fn run(given: &Given) -> Result<u8, Failure> {
-    let budget = RUN.number(given, "--budget", u32::MAX, BUDGET)?;
-    let mut log = log(RUN.number(given, "--log", LONGEST_LOG, LOG)?)?;
-    let (resume, save) = (RUN.state(given, "--resume")?, RUN.state(given, "--save")?);
-    keep_input(&RUN, given.input().as_deref(), save)?;
-    let loaded = files::load(given.input().as_deref())?;
-    let block = resume.map(|path| files::read(Some(path), STATE)).transpose()?;
-    match call(&loaded.table, block.as_deref(), budget, &mut log) {
-        Ok((state, ran)) => {
-            // Shown before it is saved: a call whose records were lost can then be made again.
-            let shown = if given.flag("--quiet") { 0 } else { ran.records };
-            show(records(&log, shown), &format!("{} {}", ran.ending, ran.steps))
-                .map_err(|error| unsaved(&error, save))?;
-            save.map_or(Ok(()), |path| files::write(Some(path), state.as_bytes()))?;
-            tell(&ending_words(&loaded, &state, ran.ending));
-            let strict = given.flag("--strict") && ran.ending != Ending::Finished;
-            Ok(if strict { UNFINISHED } else { 0 })
-        }
-        Err(refusal) => Err(refused(&loaded, refusal)),
-    }
-}
-
 /// Prints the refusal of a table or of its state; the failure has it in words.
 fn refused(Loaded { name, table, .. }: &Loaded, refusal: Refusal) -> Failure {
     printed_refusal(refusal, Failure::refused(name, table, refusal))
@@ -172,45 +138,10 @@ fn printed_refusal(refusal: Refusal, failure: Failure) -> Failure {
     }
 }
 
-/// What is to be told of an ending beside its word, in lines.
-fn ending_words(loaded: &Loaded, state: &State, ending: Ending) -> Vec<String> {
-    match ending {
-        Ending::Novalue { place } => vec![lacking(loaded, place)],
-        // A state that a run left stuck has a chain.
-        Ending::Stuck => state.why_stuck(&loaded.table).map_or(Vec::new(), |chain| why::lines(loaded, state, &chain)),
-        _ => Vec::new(),
-    }
-}
-
-/// Which statement has no value: with its line where the text is at hand, else by its record.
-fn lacking(Loaded { name, table, source }: &Loaded, place: u32) -> String {
-    match source {
-        Some(Source { text, records }) => asm::lacking(place, records).show(name, text),
-        None => format!("{name}: {}", describe_lacking(table, place)),
-    }
-}
-
-/// Tells lines on standard error.
-fn tell(lines: &[String]) {
-    let mut errors = io::stderr().lock();
-    for line in lines {
-        // The ending is printed; nothing is left to do where standard error is closed.
-        let _ = writeln!(errors, "{line}");
-    }
-}
-
-/// One run call, from a fresh state or a saved one. As in the library the table is looked at first.
-fn call(table: &[u8], block: Option<&[u8]>, budget: u32, log: &mut [u8]) -> Result<(State, Ran), Refusal> {
-    let fresh = State::start(table)?;
-    let mut state = block.map_or(Ok(fresh), State::from_bytes)?;
-    let ran = state.run(table, budget, log)?;
-    Ok((state, ran))
-}
-
 fn why(given: &Given) -> Result<u8, Failure> {
     let state = WHY.due(given, 1)?;
     let loaded = files::load(given.input().as_deref())?;
-    let block = files::read(Some(state), STATE)?;
+    let block = saved::read(Some(state), Some(&loaded.table))?;
     match explained(&loaded.table, &block) {
         Ok((state, chain)) => print_lines(&why::lines(&loaded, &state, &chain)),
         Err(refusal) => Err(refused(&loaded, refusal)),
@@ -227,7 +158,7 @@ fn explained(table: &[u8], block: &[u8]) -> Result<(State, Chain), Refusal> {
 
 fn show_state(given: &Given) -> Result<u8, Failure> {
     let input = given.input();
-    let block = files::read(input.as_deref(), STATE)?;
+    let block = saved::read(input.as_deref(), None)?;
     match state::read(&block) {
         Ok(state) => print_lines(&state::lines(&state)),
         Err(fault) => {
@@ -245,25 +176,4 @@ fn show(records: impl Iterator<Item = Record>, last: &str) -> io::Result<()> {
     }
     writeln!(output, "{last}")?;
     output.flush()
-}
-
-/// The failure of a run's print, which also keeps the state from being saved.
-fn unsaved(error: &io::Error, save: Option<&Path>) -> Failure {
-    match save {
-        Some(path) => Failure::usage(format_args!("standard output: {error}; {} is not written", path.display())),
-        None => files::printed(error),
-    }
-}
-
-fn timeline(given: &Given) -> Result<u8, Failure> {
-    let budget = TIMELINE.number(given, "--budget", u32::MAX, BUDGET)?;
-    let mut log = log(TIMELINE.number(given, "--log", LONGEST_TIMELINE, LOG)?)?;
-    let (input, output) = (given.input(), given.output());
-    keep_input(&TIMELINE, input.as_deref(), output.as_deref())?;
-    let Loaded { name, table, .. } = files::load(input.as_deref())?;
-    let course = Course::of(&table, budget, &mut log).map_err(|refusal| Failure::refused(&name, &table, refusal))?;
-    let title = input.as_deref().and_then(Path::file_name).map_or(name, |base| base.to_string_lossy().into_owned());
-    let heading = Heading { name: &title, ending: course.ending, steps: course.steps, budget };
-    files::write(output.as_deref(), picture::draw(&Timeline::of(&course), &heading).as_bytes())?;
-    Ok(0)
 }

@@ -19,6 +19,7 @@ pub mod names;
 pub mod picture;
 pub mod raw;
 pub mod readable;
+pub mod saved;
 pub mod source;
 pub mod state;
 pub mod svg;
