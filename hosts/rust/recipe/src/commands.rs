@@ -132,7 +132,7 @@ fn refused(Loaded { name, table, .. }: &Loaded, refusal: Refusal) -> Failure {
 
 /// Prints a refusal as the library gives it; gives the failure that has it in words.
 fn printed_refusal(refusal: Refusal, failure: Failure) -> Failure {
-    match show([].into_iter(), &refusal.to_string()) {
+    match show([].into_iter(), &refusal.printed().to_string()) {
         Ok(()) => failure,
         Err(error) => files::printed(&error),
     }

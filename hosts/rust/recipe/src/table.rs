@@ -132,11 +132,11 @@ pub const LACKING: &str = "the expression divides by 0 and has no value";
 
 /// A table's refusal in words, with the record at fault.
 pub fn describe(table: &[u8], refusal: Refusal) -> String {
-    let words = refusal.words();
+    let (printed, words) = (refusal.printed(), refusal.words());
     match refusal.number {
-        12..=17 => format!("{refusal}: {}{words}", described(table, refusal.place)),
-        22 => format!("{refusal}: state record {}: {words}", refusal.place),
-        _ => format!("{refusal}: {words}"),
+        12..=17 => format!("{printed}: {}{words}", described(table, refusal.place)),
+        22 => format!("{printed}: state record {}: {words}", refusal.place),
+        _ => format!("{printed}: {words}"),
     }
 }
 

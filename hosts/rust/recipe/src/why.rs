@@ -15,14 +15,14 @@ pub fn lines(loaded: &Loaded, state: &State, chain: &Chain) -> Vec<String> {
     let tasks = state.queue().map(|task| (task.number, task)).collect();
     let teller = Teller { records: decode(&loaded.table), source: loaded.source.as_ref(), state, tasks };
     // The number that closes a circle has had its line.
-    let last = chain.tasks.len().saturating_sub(usize::from(chain.end == End::NamedEarlier));
-    let links = chain.tasks.iter().take(last).enumerate();
+    let last = chain.tasks().len().saturating_sub(usize::from(chain.end() == End::NamedEarlier));
+    let links = chain.tasks().iter().take(last).enumerate();
     links.filter_map(|(index, task)| teller.line(*task, chain, index + 1)).collect()
 }
 
 /// How many tasks wait in the circle that a chain ends in.
 fn circle(chain: &Chain) -> usize {
-    let from_last = chain.tasks.iter().rev().skip(1).position(|task| Some(task) == chain.tasks.last());
+    let from_last = chain.tasks().iter().rev().skip(1).position(|task| Some(task) == chain.tasks().last());
     from_last.map_or(0, |before| before + 1)
 }
 
@@ -38,13 +38,13 @@ impl Teller<'_> {
     /// The line of a task; the one that it waits for, if any, stands at `next` in the chain.
     fn line(&self, number: u16, chain: &Chain, next: usize) -> Option<String> {
         let task = self.tasks.get(&number)?;
-        let holder = match (chain.tasks.get(next), wait(task, &self.records, self.state)?) {
+        let holder = match (chain.tasks().get(next), wait(task, &self.records, self.state)?) {
             (Some(other), _) if *other == number => "for itself".to_string(),
             (Some(other), _) => format!("for task {other}"),
             (None, Wait::Await(awaited)) => format!("for number {awaited}, which was never issued"),
             (None, Wait::Guard) => "at a guard that is untrue".to_string(),
         };
-        let closes = chain.end == End::NamedEarlier && next + 1 == chain.tasks.len();
+        let closes = chain.end() == End::NamedEarlier && next + 1 == chain.tasks().len();
         let circle = if closes { format!(": a circle of {}", counted(circle(chain), "task")) } else { String::new() };
         Some(format!("task {number} waits {holder} ({}){circle}", self.place(task.place)?))
     }

@@ -278,7 +278,7 @@ fn lines(table: &[u8], state: &State) -> (Vec<String>, usize) {
     let loaded = Loaded { name: String::new(), table: table.to_vec(), source: None };
     let lines = why::lines(&loaded, state, &chain);
     hold_true(table, state, &lines);
-    (lines, chain.end as usize)
+    (lines, chain.end() as usize)
 }
 
 #[test]
