@@ -10,8 +10,9 @@
  *
  * Buffers
  *   Each buffer is a pointer and a length in bytes, lent for the call only.
- *   - The pointer must not be null, even for length 0, and that many bytes
- *     must be there. No alignment is asked.
+ *   - That many bytes must be there. No alignment is asked. A null pointer is
+ *     for length 0 alone: measured, with the archive as built here, it is an
+ *     empty buffer in each call.
  *   - The buffers of one call must not overlap.
  *   - Any length and any content is allowed: what breaks a rule is refused.
  *   - A refused call changes no buffer.
@@ -30,6 +31,18 @@
  *   holds. Measured on x86-64: at most 15,335 bytes in recipe_run, 4,503 in
  *   recipe_start, 15,511 in recipe_why_stuck and 3,367 in recipe_check_all,
  *   rounded up here to the next 4 KiB.
+ *
+ * What the archive needs
+ *   An x86-64 processor at the level x86-64-v2 (SSE up to 4.2), called by the
+ *   System V convention: at a call the stack is aligned to 16 bytes, as every
+ *   C compiler does; a caller in assembly, or one that switches stacks, has to.
+ *   The level is not looked at when it runs. From the C library memcpy and
+ *   memset. It has no data of its own, is position-independent and uses no red
+ *   zone. docs/INTEGRATION.md has the other targets of the toolchain.
+ *
+ * Formats
+ *   docs/FORMAT.md has the table, the state, the log and the order of the tests,
+ *   byte by byte.
  */
 #ifndef RECIPE_RUNNER_H
 #define RECIPE_RUNNER_H

@@ -501,7 +501,46 @@ test_trouble() {
         "$(said -s "$work/nowhere/state" "$work/a" | tail -n 1)"
 }
 
+# sampled PROGRAM TABLE: what the guide's sample host prints, and its exit status.
+sampled() {
+    "./$1" "$2" 2>&1
+    echo "exit $?"
+}
+
+# The host that the guide shows. It ends on every recipe, also where it cannot
+# get on.
+test_sample() {
+    recipes=../../recipes
+    check "sample: row A" "valve 1 is 5
+valve 0 is 1
+finished
+exit 0" "$(sampled sample $recipes/a.table)"
+    table "$work/below" 1,0,2,0 3,2,1,0 9,0,0,-7
+    check "sample: a value below 0" "valve 2 is -7
+finished
+exit 0" "$(sampled sample "$work/below")"
+    check "sample: stuck" "waits: task 2
+waits: task 3
+waits: task 2
+exit 1" "$(sampled sample $recipes/deadlock.table)"
+    check "sample: no value" "exit 1" \
+        "$(sampled sample $recipes/novalue.table | tail -n 1)"
+    check "sample: tasks" "ended with 3 at record 0
+exit 1" "$(sampled sample $recipes/f.table)"
+    table "$work/cut" 1,0,1,0
+    check "sample: refused" "refused 13 at record 0
+exit 1" "$(sampled sample "$work/cut")"
+    : >"$work/empty"
+    check "sample: empty" "refused 11 at record 0
+exit 1" "$(sampled sample "$work/empty")"
+    check "sample: no such table" "exit 2" \
+        "$(sampled sample "$work/nowhere" | tail -n 1)"
+    check "sample: no room in the log" "the log has no room for one record
+exit 1" "$(sampled sample_no_log $recipes/a.table)"
+}
+
 test_rows
+test_sample
 test_refused_table
 test_refused_state
 test_starters
