@@ -32,7 +32,7 @@ impl Fault {
 
     /// The fault with its number and place.
     pub fn told(&self) -> String {
-        format!("{}: {}", self.refusal, self.sentence)
+        format!("{}: {}", self.refusal.printed(), self.sentence)
     }
 }
 
