@@ -39,7 +39,7 @@ impl fmt::Display for Content {
             Content::Table => "a table",
             Content::Picture => "a picture",
             Content::Text => "text",
-            Content::Other => "a file of no kind that is known here",
+            Content::Other => "of a kind that is not known here",
         })
     }
 }

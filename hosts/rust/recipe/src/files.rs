@@ -51,11 +51,13 @@ pub fn read(file: Option<&Path>, limit: usize) -> Result<Vec<u8>, Failure> {
 /// The failure to read or write a file.
 fn trouble(file: Option<&Path>, error: &io::Error) -> Failure {
     match file {
-        Some(path) if path.is_dir() => {
-            Failure::usage(format_args!("{}: this is a directory, and a file is due", path.display()))
-        }
+        Some(path) if path.is_dir() => directory(path),
         _ => Failure::io(shown(file), error),
     }
+}
+
+fn directory(path: &Path) -> Failure {
+    Failure::usage(format_args!("{}: this is a directory, and a file is due", path.display()))
 }
 
 /// Reads a text and assembles it.
@@ -95,8 +97,11 @@ pub fn write_over(file: Option<&Path>, bytes: &[u8], kind: Content, force: bool)
     write(file, bytes)
 }
 
-/// Whether a file may be written: none of another kind and none that is read-only is replaced, unless forced.
+/// Whether a file may be written: no directory, and unless forced none of another kind and none that is read-only.
 pub fn replaceable(file: Option<&Path>, kind: Content, force: bool) -> Result<(), Failure> {
+    if let Some(path) = file.filter(|path| path.is_dir()) {
+        return Err(directory(path));
+    }
     let Some(path) = file.filter(|path| !force && path.is_file()) else { return Ok(()) };
     let kept = |why: String| Failure::usage(format_args!("{}: {why} (--force replaces it)", path.display()));
     if is_read_only(path) {

@@ -2,8 +2,8 @@
 
 mod common;
 
-use std::fs;
-use std::io::{BufRead, BufReader, Read};
+use std::fs::{self, DirEntry};
+use std::io::{self, BufRead, BufReader, Read};
 use std::path::Path;
 use std::process::{Child, Command, Stdio};
 use std::thread;
@@ -27,8 +27,8 @@ procedure work before
         await before
     set valve2 before * 2
 ";
-/// Counts on and on; a valve is set each time.
-const COUNTS: &str = "procedure main\n  while n < 3000\n    set n n + 1\n    set valve0 n\n";
+/// Sets a valve many times: more lines than a pipe holds, so that the run waits for its reader.
+const COUNTS: &str = "procedure main\n  while n < 20000\n    set n n + 1\n    set valve0 n\n";
 /// Never ends and writes no record.
 const FOR_EVER: &str = "procedure main\n  while 1\n    skip\n";
 
@@ -134,6 +134,12 @@ fn killed_after(d: &Path, arguments: &[&str], lines: usize) -> Vec<String> {
     text[..end].lines().map(String::from).collect()
 }
 
+/// Goes on from the state, if one was saved before the interrupt.
+fn on(d: &Path) -> Vec<&'static str> {
+    let resume: &[&str] = if d.join("state").exists() { &["--resume", "state"] } else { &[] };
+    [&["run", "r.recipe", "--save", "state"], resume].concat()
+}
+
 /// After a kill the records that were printed and those of the resumed run cover the whole run: at most a slice's are
 /// printed twice, and none is lost.
 #[test]
@@ -147,8 +153,7 @@ fn a_killed_run_is_resumed() {
         let save = ["run", "r.recipe", "--slice", "30", "--save", "state"];
         let before = killed_after(&d, &save, lines);
         assert!(before.len() >= lines && follows(&before, 0, &due), "{lines}");
-        let resume: &[&str] = if d.join("state").exists() { &["--resume", "state"] } else { &[] };
-        let (after, left, ending) = parts(&stdout(&recipe(&d, &[&save[..], resume].concat(), b"")));
+        let (after, left, ending) = parts(&stdout(&recipe(&d, &on(&d), b"")));
         let from = due.len() - after.len();
         assert!(follows(&after, from, &due) && from <= before.len(), "{from} {}", before.len());
         // Ten records a slice.
@@ -174,9 +179,9 @@ fn a_pipe_that_goes_away_keeps_the_state_before() {
     child.stderr.take().unwrap().read_to_string(&mut told).unwrap();
     assert_eq!((child.wait().unwrap().code(), &*first), (Some(2), "valve 1 0 1\n"));
     assert!(told.contains("state is left as it was before these records"), "{told}");
-    assert!(fs::read_dir(&d).unwrap().all(|entry| !entry.unwrap().path().ends_with(".tmp")));
-    let resume: &[&str] = if d.join("state").exists() { &["--resume", "state"] } else { &[] };
-    let resumed = recipe(&d, &[&save[..], resume].concat(), b"");
+    let temporary = |entry: io::Result<DirEntry>| entry.unwrap().file_name().to_string_lossy().ends_with(".tmp");
+    assert!(!fs::read_dir(&d).unwrap().any(temporary));
+    let resumed = recipe(&d, &on(&d), b"");
     assert_eq!(status(&resumed), 0);
     let whole = recipe(&d, &["run", "r.recipe", "--save", "whole"], b"");
     let (due, after) = (parts(&stdout(&whole)).0, parts(&stdout(&resumed)).0);
