@@ -195,6 +195,21 @@ fn a_pipe_that_goes_away_keeps_the_state_before() {
     assert_eq!((child.wait().unwrap().code(), &*told), (Some(2), ""));
 }
 
+#[cfg(target_os = "linux")]
+#[test]
+fn a_full_device_keeps_the_state_before() {
+    let d = directory("slices_full");
+    fs::write(d.join("r.recipe"), COUNTS).unwrap();
+    assert_eq!(status(&recipe(&d, &["run", "r.recipe", "--steps", "30", "--save", "state"], b"")), 3);
+    let before = fs::read(d.join("state")).unwrap();
+    let mut command = Command::new(env!("CARGO_BIN_EXE_recipe"));
+    command.args(on(&d)).current_dir(&d).stdin(Stdio::null()).stderr(Stdio::piped());
+    let full = fs::OpenOptions::new().write(true).open("/dev/full").unwrap();
+    let output = command.stdout(full).spawn().unwrap().wait_with_output().unwrap();
+    assert_eq!((status(&output), fs::read(d.join("state")).unwrap()), (2, before));
+    assert!(stderr(&output).contains("state is left as it was before these records"), "{}", stderr(&output));
+}
+
 #[cfg(unix)]
 #[test]
 fn a_run_that_never_ends_can_be_interrupted() {

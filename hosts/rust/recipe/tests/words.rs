@@ -28,7 +28,8 @@ const TAKERS: [&[&str]; 5] = [&["check"], &["run"], &["dis"], &["why"], &["timel
 #[test]
 fn other_files_are_told_by_each_command() {
     let d = with_files("words_other");
-    let text = "this is text: did you mean `recipe asm`? of texts only a file whose name ends in \".recipe\" is assembled first";
+    let text = "this is text: did you mean `recipe asm`? assemble it first, or give it a name that ends in \".recipe\" (any other \
+                is a table's)";
     for (file, refusal, sentence) in [
         ("mine.txt", "refused 11 0", text),
         ("long.txt", "refused 11 0", text),

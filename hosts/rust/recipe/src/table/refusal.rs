@@ -17,7 +17,7 @@ pub fn describe(table: &[u8], refusal: Refusal) -> String {
 fn foreign(bytes: &[u8]) -> Option<&'static str> {
     match Content::of(bytes) {
         Content::Text => Some(
-            "this is text: did you mean `recipe asm`? of texts only a file whose name ends in \".recipe\" is assembled first",
+            "this is text: did you mean `recipe asm`? assemble it first, or give it a name that ends in \".recipe\" (any other is a table's)",
         ),
         Content::State => Some("this is a saved state, and a table is due"),
         Content::Picture => Some("this is a picture, and a table is due"),
