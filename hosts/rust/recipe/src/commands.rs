@@ -4,7 +4,7 @@ use std::ffi::OsString;
 use std::io::{self, BufWriter, Write};
 use std::path::Path;
 
-use recipe_runner::{Record, State, RECORD};
+use recipe_runner::{Record, Refusal, State, RECORD};
 
 use crate::args::{Given, Options};
 use crate::content::Content;
@@ -137,17 +137,26 @@ fn accepted(Loaded { name, table, .. }: &Loaded) -> Result<State, Failure> {
     State::start(table).map_err(|refusal| Failure::refused(name, table, refusal))
 }
 
+/// The state that was saved in a run of a table. Its content is checked by the library's call.
+fn resumed(Loaded { table, .. }: &Loaded, path: &Path) -> Result<State, Failure> {
+    let block = saved::read(Some(path), Some(table))?;
+    State::from_bytes(&block).map_err(|refusal| Failure::of(&files::shown(Some(path)), refusal, refusal.words()))
+}
+
+/// The library's refusal of a state with its table.
+fn refused_state(file: Option<&Path>, state: &State, refusal: Refusal) -> Failure {
+    Failure::of(&files::shown(file), refusal, &state::describe(state, refusal))
+}
+
 fn why(given: &Given) -> Result<u8, Failure> {
     let path = WHY.due(given, 1)?;
     let loaded = files::load(given.input().as_deref())?;
     // As in the library the table is looked at first.
     accepted(&loaded)?;
-    let name = files::shown(Some(path));
-    let block = saved::read(Some(path), Some(&loaded.table))?;
-    let state = State::from_bytes(&block).map_err(|refusal| Failure::of(&name, refusal, refusal.words()))?;
+    let state = resumed(&loaded, path)?;
     match state.why_stuck(&loaded.table) {
         Ok(chain) => print_lines(&why::lines(&loaded, &state, &chain)),
-        Err(refusal) => Err(Failure::of(&name, refusal, &state::describe(&state, refusal))),
+        Err(refusal) => Err(refused_state(Some(path), &state, refusal)),
     }
 }
 

@@ -6,14 +6,14 @@ use std::path::Path;
 use recipe_runner::{records, Ending, Ran, State, RECORD};
 
 use crate::args::{Given, Options};
-use crate::commands::{accepted, keep_input, log, show};
+use crate::commands::{accepted, keep_input, log, refused_state, resumed, show};
 use crate::content::Content;
 use crate::failure::{status_of, Failure};
 use crate::files::{self, Loaded, Source};
 use crate::progress::Progress;
 use crate::table::describe_lacking;
 use crate::words::counted;
-use crate::{asm, saved, state, why};
+use crate::{asm, saved, why};
 
 /// The steps of a slice, unless given.
 const SLICE: u32 = 1 << 16;
@@ -47,9 +47,7 @@ pub fn run(given: &Given) -> Result<u8, Failure> {
 /// The state that a run begins with: a fresh one, or a saved one. As in the library the table is looked at first.
 fn begun(loaded: &Loaded, resume: Option<&Path>) -> Result<State, Failure> {
     let fresh = accepted(loaded)?;
-    let Some(path) = resume else { return Ok(fresh) };
-    let block = saved::read(Some(path), Some(&loaded.table))?;
-    State::from_bytes(&block).map_err(|refusal| Failure::of(&files::shown(resume), refusal, refusal.words()))
+    resume.map_or(Ok(fresh), |path| resumed(loaded, path))
 }
 
 /// A run under way.
@@ -90,10 +88,8 @@ impl Run<'_> {
         let room = self.log.len() / RECORD;
         let budget = u32::try_from(left).unwrap_or(u32::MAX).min(u32::try_from(room).unwrap_or(u32::MAX));
         let Loaded { table, .. } = self.loaded;
-        let ran = self.state.run(table, budget, &mut self.log).map_err(|refusal| {
-            let sentence = state::describe(&self.state, refusal);
-            Failure::of(&files::shown(self.resume), refusal, &sentence)
-        })?;
+        let ran = self.state.run(table, budget, &mut self.log);
+        let ran = ran.map_err(|refusal| refused_state(self.resume, &self.state, refusal))?;
         self.steps += u64::from(ran.steps);
         self.records += u64::from(ran.records);
         Ok(ran)

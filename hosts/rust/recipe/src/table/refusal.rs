@@ -43,11 +43,13 @@ fn length(bytes: usize) -> String {
     match (bytes, bytes % RECORD) {
         (0, _) => "the table is empty".to_string(),
         (TABLE.., _) => "the table's bytes are more than 32,768".to_string(),
-        (_, over) => {
-            let (left, are) = (counted(over, "byte"), if over == 1 { "is" } else { "are" });
-            format!("the table's length {bytes} is no multiple of 8: {left} {are} left over")
-        }
+        (_, over) => format!("the table's length {bytes} is no multiple of 8: {} left over", are(over, "byte")),
     }
+}
+
+/// A count with its noun and verb.
+fn are(count: usize, noun: &str) -> String {
+    format!("{} {}", counted(count, noun), if count == 1 { "is" } else { "are" })
 }
 
 /// A record at fault in its table. The records before it are in order.
@@ -126,7 +128,8 @@ impl Fault<'_> {
             Some(least) if span < least => format!("at least {least} is due in kind {} ({word})", self.record.kind),
             _ if span > rest => format!("{inside} has {} left behind this one", counted(rest, "record")),
             _ if is_first => format!("{inside} has no record left for its second operand"),
-            _ => format!("{rest} is due, to the end of {inside}"),
+            None => format!("{} left over behind it in {inside}", are(rest, "record")),
+            Some(_) => format!("{rest} is due, to the end of {inside}"),
         }
     }
 
@@ -271,7 +274,12 @@ mod tests {
             (
                 &[(1, 0, 3, 0), (3, 8, 2, 0), (9, 0, 0, 0), (9, 0, 0, 0)],
                 2,
-                "0, and 1 is due, to the end of record 1 (set)",
+                "0, and 1 record is left over behind it in record 1 (set)",
+            ),
+            (
+                &[(1, 0, 4, 0), (3, 8, 3, 0), (12, 0, 1, 0), (9, 0, 0, 0), (9, 0, 0, 0)],
+                2,
+                "1, and 2 is due, to the end of record 1 (set)",
             ),
             (
                 &[(1, 0, 4, 0), (3, 8, 3, 0), (11, 0, 2, 0), (12, 0, 1, 0), (9, 0, 0, 0)],
