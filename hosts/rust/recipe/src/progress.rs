@@ -14,27 +14,30 @@ pub struct Progress {
     /// Whether standard output goes to a terminal as well, so that the line has to make room for it.
     shared: bool,
     drawn: bool,
+    /// Whether the line was cleared to make room, and is due again.
+    due: bool,
     last: Instant,
 }
 
 impl Progress {
     pub fn new() -> Progress {
         let (wanted, shared) = (io::stderr().is_terminal(), io::stdout().is_terminal());
-        Progress { wanted, shared, drawn: false, last: Instant::now() }
+        Progress { wanted, shared, drawn: false, due: false, last: Instant::now() }
     }
 
-    /// Shows a line in place of the last one, a few times a second at most.
+    /// Shows a line in place of the last one, a few times a second, and where the last one made room.
     pub fn show(&mut self, line: impl FnOnce() -> String) {
-        if self.wanted && self.last.elapsed() >= PAUSE {
+        if self.wanted && (self.due || self.last.elapsed() >= PAUSE) {
             write(&format!("{CLEARED}{}", line()));
-            (self.drawn, self.last) = (true, Instant::now());
+            (self.drawn, self.due, self.last) = (true, false, Instant::now());
         }
     }
 
     /// Makes room for what goes to standard output.
     pub fn make_room(&mut self) {
-        if self.shared {
+        if self.shared && self.drawn {
             self.clear();
+            self.due = true;
         }
     }
 

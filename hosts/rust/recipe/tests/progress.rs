@@ -8,6 +8,7 @@ use std::io::Read;
 use std::os::fd::AsRawFd;
 use std::path::Path;
 use std::process::{Command, Stdio};
+use std::thread;
 
 use common::directory;
 
@@ -65,18 +66,44 @@ fn a_terminal_has_one_line_that_is_cleared() {
     assert!(shown.is_sorted_by_key(steps), "{text:?}");
 }
 
-/// Where the records go to the same terminal, the line makes room for them.
-#[test]
-fn records_stand_in_lines_of_their_own() {
-    let d = directory("progress_shared");
-    fs::write(d.join("r.recipe"), LONG).unwrap();
+/// What the terminal shows of a run that has both its streams.
+fn shared(d: &Path, text: &str) -> String {
+    fs::write(d.join("r.recipe"), text).unwrap();
     let (seen, shown) = terminal();
-    let mut command = tool(&d, &["run", "r.recipe"]);
+    let reader = thread::spawn(|| all(seen));
+    let mut command = tool(d, &["run", "r.recipe"]);
     command.stdout(shown.try_clone().unwrap()).stderr(shown);
     assert!(command.status().unwrap().success());
     drop(command);
-    let text = all(seen);
+    reader.join().unwrap()
+}
+
+/// Without records the line stands until it is overwritten.
+#[test]
+fn a_line_stays_where_nothing_is_printed() {
+    let text = shared(&directory("progress_shared"), LONG);
     assert!(text.ends_with("\r\x1b[Kended 1 0 0\r\nfinished 120000002\r\n"), "{text:?}");
+    let lines: Vec<&str> = text.split("\r\x1b[K").collect();
+    assert!(lines.len() > 2 && lines[1..].iter().all(|line| !line.is_empty()), "{text:?}");
+}
+
+/// Records that go to the same terminal stand in lines of their own, and the line stands below them.
+#[test]
+fn the_line_makes_room_for_records() {
+    let text = format!("{LONG}    if n - n / 100000 * 100000 == 0\n      set valve1 n\n");
+    let text = shared(&directory("progress_records"), &text);
+    let shown = text.replace("\r\x1b[K", "\r\n");
+    let known = |line: &str| {
+        let is_count = line.ends_with(" log records") || line.ends_with(" log record");
+        is_count || line.is_empty() || line.starts_with("valve 1 1 ") || line == "ended 1 0 0"
+    };
+    let mut lines = shown.lines().rev();
+    assert!(lines.next().unwrap().starts_with("finished "));
+    let other = lines.find(|line| !known(line));
+    assert_eq!(other, None);
+    assert_eq!(shown.matches("valve 1 1 ").count(), 400);
+    // The first line comes some records late; from then on each record has one below it.
+    assert!(shown.matches(" live task, ").count() > 100, "{text:?}");
 }
 
 #[test]

@@ -61,7 +61,7 @@ struct Run<'r> {
     quiet: bool,
     /// Steps made and records written so far.
     steps: u64,
-    records: u64,
+    records: usize,
 }
 
 impl Run<'_> {
@@ -72,9 +72,8 @@ impl Run<'_> {
             let left = most.map_or(u64::MAX, |most| most.saturating_sub(self.steps));
             let ran = self.slice(left)?;
             let over = ran.ending != Ending::Paused || most == Some(self.steps);
-            progress.make_room();
             // Printed before it is saved: a slice whose records were lost is then made again.
-            self.print(&ran, over)?;
+            self.print(&ran, over, &mut progress)?;
             self.save()?;
             if over {
                 return Ok(ran.ending);
@@ -91,13 +90,16 @@ impl Run<'_> {
         let ran = self.state.run(table, budget, &mut self.log);
         let ran = ran.map_err(|refusal| refused_state(self.resume, &self.state, refusal))?;
         self.steps += u64::from(ran.steps);
-        self.records += u64::from(ran.records);
+        self.records += ran.records as usize;
         Ok(ran)
     }
 
     /// A slice's records, and the ending behind the last slice's.
-    fn print(&self, ran: &Ran, over: bool) -> Result<(), Failure> {
+    fn print(&self, ran: &Ran, over: bool, progress: &mut Progress) -> Result<(), Failure> {
         let shown = if self.quiet { 0 } else { ran.records };
+        if shown > 0 || over {
+            progress.make_room();
+        }
         let last = over.then(|| format!("{} {}", ran.ending, self.steps));
         show(records(&self.log, shown), last.as_deref()).map_err(|error| unsaved(&error, self.save))
     }
@@ -108,7 +110,7 @@ impl Run<'_> {
 
     fn progress(&self) -> String {
         let live = counted(self.state.tasks().count(), "live task");
-        format!("{} steps, {live}, {} log records", self.steps, self.records)
+        format!("{} steps, {live}, {}", self.steps, counted(self.records, "log record"))
     }
 }
 
