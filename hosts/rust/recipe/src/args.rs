@@ -17,6 +17,13 @@ pub struct Options {
     pub flags: &'static [&'static str],
 }
 
+/// Options that a subcommand once had, and what to write in their place.
+const FORMER: [(&str, &str, &str); 3] = [
+    ("run", "--budget", "a run goes on to its end, and \"--steps N\" stops it earlier"),
+    ("run", "--log", "the log has room for each slice's records, and \"--slice N\" gives the steps of a slice"),
+    ("run", "--strict", "leave it out: the exit status always tells the ending"),
+];
+
 /// What was given.
 #[derive(Debug, Default)]
 pub struct Given {
@@ -66,7 +73,7 @@ impl Options {
             return Ok(());
         }
         let Some(option) = known(self.valued) else {
-            return Err(self.wrong(format!("there is no option {}", quoted(text))));
+            return Err(self.unknown(name, text));
         };
         if given.value(option).is_some() {
             return Err(self.wrong(format!("{option} is given twice")));
@@ -77,6 +84,15 @@ impl Options {
         Ok(())
     }
 
+    /// The failure of an option that there is not, or not any more.
+    fn unknown(&self, name: &str, text: &str) -> Failure {
+        let former = FORMER.iter().find(|(command, former, _)| *command == self.command && *former == name);
+        match former {
+            Some((_, former, instead)) => self.wrong(format!("there is no {former} any more: {instead}")),
+            None => self.wrong(format!("there is no option {}", quoted(text))),
+        }
+    }
+
     /// A fault of the command line.
     pub fn wrong(&self, sentence: String) -> Failure {
         let command = self.command;
@@ -85,14 +101,20 @@ impl Options {
 
     /// A number given with an option, or the one that holds without it.
     pub fn number(&self, given: &Given, option: &str, most: u32, default: u32) -> Result<u32, Failure> {
+        let number = self.count(given, option, 0, most.into())?;
+        Ok(number.and_then(|number| u32::try_from(number).ok()).unwrap_or(default))
+    }
+
+    /// A number given with an option, if it is given.
+    pub fn count(&self, given: &Given, option: &str, least: u64, most: u64) -> Result<Option<u64>, Failure> {
         let Some(value) = given.value(option) else {
-            return Ok(default);
+            return Ok(None);
         };
         let digits = value.to_str().filter(|text| text.bytes().all(|byte| byte.is_ascii_digit()));
-        let number = digits.and_then(|digits| digits.parse().ok()).filter(|number| *number <= most);
-        number.ok_or_else(|| {
+        let number = digits.and_then(|digits| digits.parse().ok()).filter(|number| (least..=most).contains(number));
+        number.map(Some).ok_or_else(|| {
             let found = quoted(&value.to_string_lossy());
-            self.wrong(format!("{option} takes a number from 0 to {most}, not {found}"))
+            self.wrong(format!("{option} takes a number from {least} to {most}, not {found}"))
         })
     }
 
@@ -154,6 +176,11 @@ impl Given {
     pub fn output(&self) -> Option<PathBuf> {
         self.value("-o").and_then(named)
     }
+
+    /// The file to write that an option names, if it is given: none in it for standard output.
+    pub fn output_of(&self, option: &str) -> Option<Option<PathBuf>> {
+        self.value(option).map(named)
+    }
 }
 
 #[cfg(test)]
@@ -211,6 +238,28 @@ mod tests {
         assert_eq!(inputs(&["--", "--help", "-x"]), Ok(vec![file("--help"), file("-x")]));
         let twice = inputs(&["-", "f", "-"]).unwrap_err();
         assert_eq!((twice.status, twice.message.contains("given twice")), (2, true), "{}", twice.message);
+    }
+
+    #[test]
+    fn former_options_say_what_to_write() {
+        for (line, part) in [
+            (&["--strict"][..], "no --strict any more: leave it out"),
+            (&["--log", "5"], "no --log any more: the log has room"),
+            (&["--log=5"], "no --log any more: the log has room"),
+        ] {
+            let wrong = read(line).unwrap_err();
+            assert_eq!((wrong.status, wrong.message.contains(part)), (2, true), "{}", wrong.message);
+        }
+    }
+
+    #[test]
+    fn counts_have_bounds() {
+        let count = |value| OPTIONS.count(&read(&["--budget", value]).unwrap(), "--budget", 1, u64::MAX);
+        assert_eq!(count("18446744073709551615"), Ok(Some(u64::MAX)));
+        assert_eq!(OPTIONS.count(&read(&[]).unwrap(), "--budget", 1, 9), Ok(None));
+        for wrong in ["0", "18446744073709551616", "1e3", ""] {
+            assert!(count(wrong).is_err(), "{wrong}");
+        }
     }
 
     #[test]

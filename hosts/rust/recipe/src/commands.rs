@@ -4,10 +4,11 @@ use std::ffi::OsString;
 use std::io::{self, BufWriter, Write};
 use std::path::Path;
 
-use recipe_runner::{Chain, Record, Refusal, State, RECORD};
+use recipe_runner::{Record, Refusal, State, RECORD};
 
 use crate::args::{Given, Options};
-use crate::failure::{Failure, FAULT};
+use crate::content::Content;
+use crate::failure::Failure;
 use crate::files::{self, Loaded};
 use crate::words::quoted;
 use crate::{check, help, listing, raw, saved, state, why};
@@ -15,16 +16,16 @@ use crate::{check, help, listing, raw, saved, state, why};
 mod run;
 mod timeline;
 
-/// The budget of a run, unless given.
+/// The budget of a timeline, unless given.
 const BUDGET: u32 = 10_000;
-/// The log's records, unless given.
+/// Its log's records, unless given.
 const LOG: u32 = 4_096;
 
-const ASM: Options = Options { command: "asm", files: &["FILE"], valued: &["-o"], flags: &[] };
-const DIS: Options = Options { command: "dis", files: &["FILE"], valued: &[], flags: &["--raw"] };
+const ASM: Options = Options { command: "asm", files: &["FILE"], valued: &["-o"], flags: &["--force"] };
+const DIS: Options = Options { command: "dis", files: &["FILE"], valued: &["-o"], flags: &["--raw", "--force"] };
 const CHECK: Options = Options { command: "check", files: &["FILE..."], valued: &[], flags: &[] };
 const WHY: Options = Options { command: "why", files: &["TABLE", "STATE"], valued: &[], flags: &[] };
-const STATE_OF: Options = Options { command: "state", files: &["FILE"], valued: &[], flags: &[] };
+const STATE_OF: Options = Options { command: "state", files: &["FILE"], valued: &["--block"], flags: &["--force"] };
 
 /// Carries out a command line; the exit status is returned, or the failure to tell.
 pub fn dispatch(arguments: &[OsString]) -> Result<u8, Failure> {
@@ -41,13 +42,13 @@ pub fn dispatch(arguments: &[OsString]) -> Result<u8, Failure> {
         "asm" => asm(&ASM.read(rest)?),
         "dis" => dis(&DIS.read(rest)?),
         "check" => check(&CHECK.read(rest)?),
-        "run" => run::run(&run::RUN.read(rest)?),
-        "why" => why(&WHY.read(rest)?),
-        "state" => show_state(&STATE_OF.read(rest)?),
+        "run" => printing_refusals(run::run(&run::RUN.read(rest)?)),
+        "why" => printing_refusals(why(&WHY.read(rest)?)),
+        "state" => printing_refusals(show_state(&STATE_OF.read(rest)?)),
         "timeline" => timeline::timeline(&timeline::TIMELINE.read(rest)?),
         "--help" | "-h" => print(help::TOOL),
         "help" => help(rest),
-        "--version" => print(concat!("recipe ", env!("CARGO_PKG_VERSION"), "\n")),
+        "--version" | "-V" => print(concat!("recipe ", env!("CARGO_PKG_VERSION"), "\n")),
         other => Err(unknown(other)),
     }
 }
@@ -76,22 +77,20 @@ fn asm(given: &Given) -> Result<u8, Failure> {
     let (input, output) = (given.input(), given.output());
     keep_input(&ASM, input.as_deref(), output.as_deref())?;
     let Loaded { table, .. } = files::assemble(input.as_deref())?;
-    files::write(output.as_deref(), &table)?;
+    files::write_over(output.as_deref(), &table, Content::Table, given.flag("--force"))?;
     Ok(0)
 }
 
 fn dis(given: &Given) -> Result<u8, Failure> {
-    let Loaded { name, table, .. } = files::load(given.input().as_deref())?;
+    let (input, output) = (given.input(), given.output());
+    keep_input(&DIS, input.as_deref(), output.as_deref())?;
+    let Loaded { name, table, .. } = files::load(input.as_deref())?;
     let listed = listing::list(&table);
-    match (&listed, given.flag("--raw")) {
-        (_, true) => files::write(None, raw::list(&table).as_bytes())?,
-        (Ok(text), false) => files::write(None, text.as_bytes())?,
-        (Err(_), false) => {}
+    let text = if given.flag("--raw") { Some(raw::list(&table)) } else { listed.as_ref().ok().cloned() };
+    if let Some(text) = text {
+        files::write_over(output.as_deref(), text.as_bytes(), Content::Text, given.flag("--force"))?;
     }
-    match listed {
-        Ok(_) => Ok(0),
-        Err(refusal) => Err(Failure::refused(&name, &table, refusal)),
-    }
+    listed.map(|_| 0).map_err(|refusal| Failure::refused(&name, &table, refusal))
 }
 
 fn check(given: &Given) -> Result<u8, Failure> {
@@ -125,55 +124,66 @@ fn log(records: u32) -> Result<Vec<u8>, Failure> {
     Ok(log)
 }
 
-/// Prints the refusal of a table or of its state; the failure has it in words.
-fn refused(Loaded { name, table, .. }: &Loaded, refusal: Refusal) -> Failure {
-    printed_refusal(refusal, Failure::refused(name, table, refusal))
+/// Prints a refusal as the library gives it; the failure has it in words.
+fn printing_refusals(result: Result<u8, Failure>) -> Result<u8, Failure> {
+    if let Err(Failure { refusal: Some(refusal), .. }) = &result {
+        show([].into_iter(), Some(&refusal.printed().to_string())).map_err(|error| files::printed(&error))?;
+    }
+    result
 }
 
-/// Prints a refusal as the library gives it; gives the failure that has it in words.
-fn printed_refusal(refusal: Refusal, failure: Failure) -> Failure {
-    match show([].into_iter(), &refusal.printed().to_string()) {
-        Ok(()) => failure,
-        Err(error) => files::printed(&error),
-    }
+/// The fresh state of a table that is accepted.
+fn accepted(Loaded { name, table, .. }: &Loaded) -> Result<State, Failure> {
+    State::start(table).map_err(|refusal| Failure::refused(name, table, refusal))
+}
+
+/// The state that was saved in a run of a table. Its content is checked by the library's call.
+fn resumed(Loaded { table, .. }: &Loaded, path: &Path) -> Result<State, Failure> {
+    let block = saved::read(Some(path), Some(table))?;
+    State::from_bytes(&block).map_err(|refusal| Failure::of(&files::shown(Some(path)), refusal, refusal.words()))
+}
+
+/// The library's refusal of a state with its table.
+fn refused_state(file: Option<&Path>, state: &State, refusal: Refusal) -> Failure {
+    Failure::of(&files::shown(file), refusal, &state::describe(state, refusal))
 }
 
 fn why(given: &Given) -> Result<u8, Failure> {
-    let state = WHY.due(given, 1)?;
+    let path = WHY.due(given, 1)?;
     let loaded = files::load(given.input().as_deref())?;
-    let block = saved::read(Some(state), Some(&loaded.table))?;
-    match explained(&loaded.table, &block) {
-        Ok((state, chain)) => print_lines(&why::lines(&loaded, &state, &chain)),
-        Err(refusal) => Err(refused(&loaded, refusal)),
+    // As in the library the table is looked at first.
+    accepted(&loaded)?;
+    let state = resumed(&loaded, path)?;
+    match state.why_stuck(&loaded.table) {
+        Ok(chain) => print_lines(&why::lines(&loaded, &state, &chain)),
+        Err(refusal) => Err(refused_state(Some(path), &state, refusal)),
     }
-}
-
-/// The chain of a saved state. As in the library the table is looked at first.
-fn explained(table: &[u8], block: &[u8]) -> Result<(State, Chain), Refusal> {
-    State::start(table)?;
-    let state = State::from_bytes(block)?;
-    let chain = state.why_stuck(table)?;
-    Ok((state, chain))
 }
 
 fn show_state(given: &Given) -> Result<u8, Failure> {
     let input = given.input();
-    let block = saved::read(input.as_deref(), None)?;
-    match state::read(&block) {
-        Ok(state) => print_lines(&state::lines(&state)),
-        Err(fault) => {
-            let failure = Failure::new(FAULT, format!("{}: {}", files::shown(input.as_deref()), fault.told()));
-            Err(printed_refusal(fault.refusal, failure))
-        }
+    let block_file = given.output_of("--block");
+    if let Some(output) = &block_file {
+        keep_input(&STATE_OF, input.as_deref(), output.as_deref())?;
     }
+    let block = saved::read(input.as_deref(), None)?;
+    let state = state::read(&block)
+        .map_err(|fault| Failure::of(&files::shown(input.as_deref()), fault.refusal, &fault.sentence))?;
+    let Some(output) = block_file else {
+        return print_lines(&state::lines(&state));
+    };
+    files::write_over(output.as_deref(), state.as_bytes(), Content::State, given.flag("--force"))?;
+    Ok(0)
 }
 
-/// Prints a line for each record and a last one.
-fn show(records: impl Iterator<Item = Record>, last: &str) -> io::Result<()> {
+/// Prints a line for each record, and a last one if there is one.
+fn show(records: impl Iterator<Item = Record>, last: Option<&str>) -> io::Result<()> {
     let mut output = BufWriter::new(io::stdout().lock());
     for record in records {
         writeln!(output, "{record}")?;
     }
-    writeln!(output, "{last}")?;
+    if let Some(last) = last {
+        writeln!(output, "{last}")?;
+    }
     output.flush()
 }

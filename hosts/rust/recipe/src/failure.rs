@@ -1,9 +1,9 @@
-//! Why a command ends without success.
+//! Why a command ends without success, and the exit statuses.
 
 use std::fmt::Display;
 use std::io;
 
-use recipe_runner::Refusal;
+use recipe_runner::{Ending, Refusal};
 
 use crate::source::Fault;
 use crate::table::describe;
@@ -12,8 +12,25 @@ use crate::table::describe;
 pub const FAULT: u8 = 1;
 /// The command line is wrong, or a file cannot be read or written.
 pub const USAGE: u8 = 2;
-/// With `--strict`: the run's ending is not "finished".
-pub const UNFINISHED: u8 = 3;
+/// A run's steps are used up.
+pub const PAUSED: u8 = 3;
+/// A run is stuck.
+pub const STUCK: u8 = 4;
+/// A run has reached a limit of the runner.
+pub const LIMIT: u8 = 5;
+/// A run has stopped at an expression that divides by 0.
+pub const NOVALUE: u8 = 6;
+
+/// The exit status of a run's ending.
+pub fn status_of(ending: Ending) -> u8 {
+    match ending {
+        Ending::Finished => 0,
+        Ending::Paused => PAUSED,
+        Ending::Stuck => STUCK,
+        Ending::Tasks | Ending::Spent | Ending::Logfull => LIMIT,
+        Ending::Novalue { .. } => NOVALUE,
+    }
+}
 
 /// What to say (nothing if empty), and the exit status.
 #[derive(Debug, PartialEq, Eq)]
@@ -22,11 +39,13 @@ pub struct Failure {
     pub message: String,
     /// The place in the text, in lines to be shown below the message; empty if there is none.
     pub excerpt: String,
+    /// The number and place of a refusal, which commands that print a run's ending print as well.
+    pub refusal: Option<Refusal>,
 }
 
 impl Failure {
     pub fn new(status: u8, message: impl Into<String>) -> Failure {
-        Failure { status, message: message.into(), excerpt: String::new() }
+        Failure { status, message: message.into(), excerpt: String::new(), refusal: None }
     }
 
     /// A fault of a text.
@@ -34,9 +53,14 @@ impl Failure {
         Failure { excerpt: fault.excerpt(text), ..Failure::new(FAULT, fault.head(name)) }
     }
 
-    /// The library's refusal of a table or of its state.
+    /// A refusal, and what is wrong in a sentence.
+    pub fn of(name: &str, refusal: Refusal, sentence: &str) -> Failure {
+        Failure { refusal: Some(refusal), ..Failure::new(FAULT, format!("{name}: {}: {sentence}", refusal.printed())) }
+    }
+
+    /// The library's refusal of a table.
     pub fn refused(name: &str, table: &[u8], refusal: Refusal) -> Failure {
-        Failure::new(FAULT, format!("{name}: {}", describe(table, refusal)))
+        Failure::of(name, refusal, &describe(table, refusal))
     }
 
     pub fn usage(message: impl Display) -> Failure {

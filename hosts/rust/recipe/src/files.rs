@@ -8,6 +8,7 @@ use std::process;
 use recipe_runner::TABLE;
 
 use crate::asm;
+use crate::content::Content;
 use crate::failure::{Failure, USAGE};
 use crate::table::{encode, Placed};
 
@@ -43,8 +44,20 @@ pub fn read(file: Option<&Path>, limit: usize) -> Result<Vec<u8>, Failure> {
     };
     match result {
         Ok(_) => Ok(bytes),
-        Err(error) => Err(Failure::io(shown(file), &error)),
+        Err(error) => Err(trouble(file, &error)),
     }
+}
+
+/// The failure to read or write a file.
+fn trouble(file: Option<&Path>, error: &io::Error) -> Failure {
+    match file {
+        Some(path) if path.is_dir() => directory(path),
+        _ => Failure::io(shown(file), error),
+    }
+}
+
+fn directory(path: &Path) -> Failure {
+    Failure::usage(format_args!("{}: this is a directory, and a file is due", path.display()))
 }
 
 /// Reads a text and assembles it.
@@ -70,12 +83,55 @@ pub fn load(file: Option<&Path>) -> Result<Loaded, Failure> {
 /// Writes to a file, or to standard output.
 pub fn write(file: Option<&Path>, bytes: &[u8]) -> Result<(), Failure> {
     match file {
-        Some(path) => place(path, bytes).map_err(|error| Failure::io(path.display(), &error)),
+        Some(path) => place(path, bytes).map_err(|error| trouble(file, &error)),
         None => {
             let mut output = io::stdout().lock();
             output.write_all(bytes).and_then(|()| output.flush()).map_err(|error| printed(&error))
         }
     }
+}
+
+/// Writes to a file as `write` does, if what is there may be replaced by this kind.
+pub fn write_over(file: Option<&Path>, bytes: &[u8], kind: Content, force: bool) -> Result<(), Failure> {
+    replaceable(file, kind, force)?;
+    write(file, bytes)
+}
+
+/// Whether a file may be written: no directory, and unless forced none of another kind and none that is read-only.
+pub fn replaceable(file: Option<&Path>, kind: Content, force: bool) -> Result<(), Failure> {
+    if let Some(path) = file.filter(|path| path.is_dir()) {
+        return Err(directory(path));
+    }
+    let Some(path) = file.filter(|path| !force && path.is_file()) else { return Ok(()) };
+    let kept = |why: String| Failure::usage(format_args!("{}: {why} (--force replaces it)", path.display()));
+    if is_read_only(path) {
+        return Err(kept("the file is read-only".to_string()));
+    }
+    match there(path)? {
+        Content::Empty => Ok(()),
+        found if found == kind => Ok(()),
+        found => Err(kept(format!("the file is {found}, and {kind} would replace it"))),
+    }
+}
+
+/// What a file is that would be replaced. Where its content does not tell, a table's name does.
+fn there(path: &Path) -> Result<Content, Failure> {
+    let found = Content::of(&read(Some(path), asm::TEXT)?);
+    let named = path.extension().is_some_and(|extension| extension == "table");
+    Ok(if named && matches!(found, Content::Text | Content::Other) { Content::Table } else { found })
+}
+
+/// Whether a file may not be written, though its directory may.
+fn is_read_only(path: &Path) -> bool {
+    let unwritable = |error: io::Error| error.kind() == ErrorKind::PermissionDenied;
+    fs::metadata(path).is_ok_and(|old| old.permissions().readonly())
+        || OpenOptions::new().write(true).open(path).is_err_and(unwritable)
+}
+
+/// Tells a line on standard error.
+pub fn tell(line: &str) {
+    // Nothing is left to do where standard error is closed.
+    let _ = writeln!(io::stderr(), "{line}");
 }
 
 /// The failure of a write to standard output. A reader that went away needs no message.
@@ -127,6 +183,8 @@ fn beside(path: &Path) -> io::Result<(File, PathBuf)> {
 
 /// Whether an output would replace the input it is made from.
 pub fn same(input: Option<&Path>, output: Option<&Path>) -> bool {
-    let real = |path: Option<&Path>| path.and_then(|path| fs::canonicalize(path).ok());
-    real(input).is_some_and(|path| path.is_file() && real(output) == Some(path))
+    // Standard input may be a file, too.
+    let input = fs::canonicalize(input.unwrap_or(Path::new("/dev/stdin"))).ok();
+    let output = output.and_then(|path| fs::canonicalize(path).ok());
+    input.is_some_and(|path| path.is_file() && output == Some(path))
 }

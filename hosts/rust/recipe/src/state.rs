@@ -1,6 +1,6 @@
 //! A saved state in words: its tasks, who started each and how often it was taken up, and its variables.
 
-use recipe_runner::{State, Task};
+use recipe_runner::{Refusal, State, Task};
 
 use crate::table::FIRST_SHARED;
 use crate::words::counted;
@@ -18,6 +18,25 @@ pub fn read(bytes: &[u8]) -> Result<State, Fault> {
     match Fault::of(&state) {
         None => Ok(state),
         Some(fault) => Err(fault),
+    }
+}
+
+/// The refusal of a state with its table, in a sentence.
+pub fn describe(state: &State, refusal: Refusal) -> String {
+    let live = state.tasks().count();
+    match refusal.number {
+        // What breaks no rule of states has a place that this table has not.
+        22 => Fault::of(state).filter(|fault| fault.refusal == refusal).map_or_else(
+            || Fault::place(state, refusal).map_or(refusal.words().to_string(), |fault| fault.sentence),
+            |fault| fault.sentence,
+        ),
+        23 => format!("{}: {live} are live, and {} are issued", refusal.words(), state.issued()),
+        25 => match state.active() {
+            Some(task) => format!("{}: task {} is active", refusal.words(), task.number),
+            None if live == 0 => format!("{}: no task is left", refusal.words()),
+            None => format!("{}: a task of its queue can go on", refusal.words()),
+        },
+        _ => refusal.words().to_string(),
     }
 }
 

@@ -2,9 +2,13 @@
 
 use std::fmt;
 
-use recipe_runner::{Refusal, RECORD, TABLE};
+use recipe_runner::{RECORD, TABLE};
 
 use crate::source::Position;
+
+mod refusal;
+
+pub use refusal::describe;
 
 /// The most records of a table.
 pub const RECORDS: usize = TABLE / RECORD;
@@ -79,6 +83,16 @@ impl Record {
             _ => "no kind",
         }
     }
+
+    /// What the grammar has a record of this kind for, if the kind is one.
+    pub fn class(self) -> Option<&'static str> {
+        match self.kind {
+            kind::PROCEDURE => Some("a procedure"),
+            kind::SKIP..=kind::AWAIT | kind::GUARD => Some("a statement"),
+            kind::CONSTANT..=kind::UNARY => Some("an expression"),
+            _ => None,
+        }
+    }
 }
 
 impl fmt::Display for Record {
@@ -129,16 +143,6 @@ pub fn depths(records: &[Record]) -> Vec<usize> {
 
 /// Why a statement stops a run with "novalue".
 pub const LACKING: &str = "the expression divides by 0 and has no value";
-
-/// A table's refusal in words, with the record at fault.
-pub fn describe(table: &[u8], refusal: Refusal) -> String {
-    let (printed, words) = (refusal.printed(), refusal.words());
-    match refusal.number {
-        12..=17 => format!("{printed}: {}{words}", described(table, refusal.place)),
-        22 => format!("{printed}: state record {}: {words}", refusal.place),
-        _ => format!("{printed}: {words}"),
-    }
-}
 
 /// The ending "novalue" in words, with the statement's record.
 pub fn describe_lacking(table: &[u8], place: u32) -> String {

@@ -9,8 +9,10 @@ use common::{directory, recipe, row_a, status, stderr, stdout, Generator, BAD, R
 use recipe_runner::{State, BATCH};
 
 const ACCEPTED: &str = "accepted: 9 records, 2 procedures, depth 2";
-const REFUSED_WORDS: &str = "refused 13 1: record 1, 3(8,0,0) (set): the span does not fit";
-const LENGTH_WORDS: &str = "refused 11 0: the table's length is 0, not a multiple of 8, or over 32,768 bytes";
+const REFUSED_WORDS: &str =
+    "refused 13 1: record 1, 3(8,0,0) (set): the span does not fit: it is 0, and at least 1 is due in kind 3 (set)";
+const EMPTY_WORDS: &str = "refused 11 0: the table is empty";
+const LONG_WORDS: &str = "refused 11 0: the table's bytes are more than 32,768";
 const BAD_WORDS: &str = "2:11: there is no procedure \"press\"";
 
 /// A directory with files of each sort.
@@ -53,10 +55,12 @@ fn a_file_at_fault_leaves_the_others_checked() {
     let files = ["refused", "a.table", "bad.recipe", "missing", "a.recipe", "folder", "empty", "long", "a.table"];
     let (status, lines) = checked(&d, &files);
     let starts = files.map(|file| match file {
-        "missing" | "folder" => format!("recipe: {file}: "),
+        "missing" => format!("recipe: {file}: "),
+        "folder" => format!("recipe: {file}: this is a directory, and a file is due"),
         "bad.recipe" => format!("{file}:{BAD_WORDS}"),
         "refused" => format!("{file}: {REFUSED_WORDS}"),
-        "empty" | "long" => format!("{file}: {LENGTH_WORDS}"),
+        "empty" => format!("{file}: {EMPTY_WORDS}"),
+        "long" => format!("{file}: {LONG_WORDS}"),
         _ => format!("{file}: {ACCEPTED}"),
     });
     assert_eq!(lines.len(), files.len(), "{lines:?}");

@@ -5,8 +5,8 @@ mod common;
 use std::fs;
 use std::path::Path;
 
-use common::{directory, recipe, row_a, status, stderr, stdout, BAD, REFUSED, TEXT_A};
-use recipe_runner::{STATE, VARIABLE, VARIABLES_AT};
+use common::{directory, recipe, rewrite, row_a, status, stderr, stdout, BAD, REFUSED, TEXT_A};
+use recipe_runner::{VARIABLE, VARIABLES_AT};
 
 const A: &str = "\
 spawned 1 0 2
@@ -22,6 +22,8 @@ finished 8
 const STUCK: &str = "procedure main\n  set x 7\n  await x\n";
 /// Awaits a variable that holds 0.
 const NOBODY: &str = "procedure main\n  await x\n";
+/// Issues every number.
+const SPENT: &str = "procedure main\n  while 1\n    spawn x idle 0\n    suspend\nprocedure idle\n";
 const AT_GUARD: &str = "procedure main\n  guard x\n";
 /// Divides by a variable that is 0, in the second statement, at record 3.
 const SHARE: &str = "procedure main\n  set valve1 1\n  set valve0 6 / sensors\n";
@@ -78,11 +80,11 @@ fn a_timeline_tells_guards_from_awaits() {
 fn an_await_of_a_0_passes_when_it_is_tried() {
     let d = directory("nobody");
     fs::write(d.join("t.recipe"), NOBODY).unwrap();
-    let ran = recipe(&d, &["run", "t.recipe", "--strict"], b"");
+    let ran = recipe(&d, &["run", "t.recipe"], b"");
     let printed = "waits 1 0 0\ntaken 1 0 0\nended 1 0 0\nfinished 3\n";
     assert_eq!((status(&ran), &*stdout(&ran), &*stderr(&ran)), (0, printed, ""));
     // It has joined the back, and is no stuck state there.
-    let paused = recipe(&d, &["run", "t.recipe", "--budget", "1", "--save", "state"], b"");
+    let paused = recipe(&d, &["run", "t.recipe", "--steps", "1", "--save", "state"], b"");
     assert_eq!(stdout(&paused), "waits 1 0 0\npaused 1\n");
     assert_eq!(stdout(&recipe(&d, &["why", "t.recipe", "state"], b"")), "refused 25 0\n");
 }
@@ -93,9 +95,7 @@ fn a_guard_passes_once_the_host_has_written_its_variable() {
     let d = directory("sensor");
     fs::write(d.join("held.recipe"), AT_GUARD).unwrap();
     assert_eq!(stdout(&recipe(&d, &["run", "held.recipe", "--save", "state"], b"")), "waits 1 0 0\nstuck 1\n");
-    let mut state = fs::read(d.join("state")).unwrap();
-    state[VARIABLES_AT + 8 * VARIABLE] = 1;
-    fs::write(d.join("state"), state).unwrap();
+    rewrite(&d, "state", VARIABLES_AT + 8 * VARIABLE, &[1]);
     let resumed = recipe(&d, &["run", "held.recipe", "--resume", "state"], b"");
     assert_eq!(stdout(&resumed), "taken 1 0 0\nended 1 0 0\nfinished 2\n");
 }
@@ -120,15 +120,16 @@ fn a_zero_divisor_is_told_with_its_line_or_its_record() {
         ("-", format!("standard input: {by_record}")),
     ] {
         let table = fs::read(d.join("share.table")).unwrap();
-        for (arguments, due, printed) in [
-            (&["run", file][..], 0, "valve 1 1 1\nnovalue 1\n"),
-            (&["run", file, "--strict", "--quiet"], 3, "novalue 1\n"),
+        for (arguments, printed) in [
+            (&["run", file][..], "valve 1 1 1\nnovalue 1\n"),
+            (&["run", file, "--slice", "1"], "valve 1 1 1\nnovalue 1\n"),
+            (&["run", file, "--quiet"], "novalue 1\n"),
         ] {
             let ran = recipe(&d, arguments, &table);
-            assert_eq!((status(&ran), &*stdout(&ran), &*stderr(&ran)), (due, printed, &*told), "{arguments:?}");
+            assert_eq!((status(&ran), &*stdout(&ran), &*stderr(&ran)), (6, printed, &*told), "{arguments:?}");
         }
-        let paused = recipe(&d, &["run", file, "--budget", "1"], &table);
-        assert_eq!((&*stdout(&paused), &*stderr(&paused)), ("valve 1 1 1\npaused 1\n", ""));
+        let paused = recipe(&d, &["run", file, "--steps", "1"], &table);
+        assert_eq!((status(&paused), &*stdout(&paused), &*stderr(&paused)), (3, "valve 1 1 1\npaused 1\n", ""));
     }
 }
 
@@ -141,10 +142,8 @@ fn a_zero_divisor_holds_a_saved_state_until_its_variable_is_written() {
     let before = fs::read(d.join("state")).unwrap();
     let resume = ["run", "share.recipe", "--resume", "state", "--save", "state"];
     assert_eq!(stdout(&recipe(&d, &resume, b"")), "novalue 0\n");
-    let mut state = fs::read(d.join("state")).unwrap();
-    assert_eq!(state, before);
-    state[VARIABLES_AT + 8 * VARIABLE] = 2;
-    fs::write(d.join("state"), state).unwrap();
+    assert_eq!(fs::read(d.join("state")).unwrap(), before);
+    rewrite(&d, "state", VARIABLES_AT + 8 * VARIABLE, &[2]);
     assert_eq!(stdout(&recipe(&d, &resume, b"")), "valve 1 0 3\nended 1 0 0\nfinished 2\n");
 }
 
@@ -169,7 +168,9 @@ fn standard_streams_are_the_default() {
 fn refused_tables_are_told() {
     let d = directory("refused");
     fs::write(d.join("t"), REFUSED).unwrap();
-    let told = "t: refused 13 1: record 1, 3(8,0,0) (set): the span does not fit\n";
+    let told =
+        "t: refused 13 1: record 1, 3(8,0,0) (set): the span does not fit: it is 0, and at least 1 is due in kind 3 \
+                (set)\n";
     for (arguments, printed) in [
         (&["run", "t"][..], "refused 13 1\n"),
         (&["dis", "t"], ""),
@@ -200,6 +201,8 @@ fn nothing_is_written_when_refused() {
             &["run", "bad.table", "--save", out],
             &["run", "bad.recipe", "--save", out],
             &["run", "a.table", "--resume", "bad.table", "--save", out],
+            &["dis", "bad.table", "-o", out],
+            &["state", "bad.table", "--block", out],
             &["timeline", "bad.table", "-o", out],
             &["timeline", "bad.recipe", "-o", out],
         ] {
@@ -218,23 +221,24 @@ fn nothing_is_written_when_refused() {
 fn outputs_replace_old_files_whole() {
     let d = directory("replace");
     fs::write(d.join("a.recipe"), TEXT_A).unwrap();
-    fs::write(d.join("out"), vec![7; 5_000]).unwrap();
-    assert_eq!(status(&recipe(&d, &["asm", "a.recipe", "-o", "out"], b"")), 0);
-    assert_eq!(fs::read(d.join("out")).unwrap(), row_a());
-    assert_eq!(status(&recipe(&d, &["timeline", "a.recipe", "-o", "out"], b"")), 0);
-    assert!(fs::read_to_string(d.join("out")).unwrap().ends_with("</svg>\n"));
+    fs::write(d.join("out.table"), vec![7; 5_000]).unwrap();
+    assert_eq!(status(&recipe(&d, &["asm", "a.recipe", "-o", "out.table"], b"")), 0);
+    assert_eq!(fs::read(d.join("out.table")).unwrap(), row_a());
+    fs::write(d.join("out.svg"), "<svg").unwrap();
+    assert_eq!(status(&recipe(&d, &["timeline", "a.recipe", "-o", "out.svg"], b"")), 0);
+    assert!(fs::read_to_string(d.join("out.svg")).unwrap().ends_with("</svg>\n"));
     // Its own input is kept.
     assert_eq!(status(&recipe(&d, &["asm", "a.recipe", "-o", "./a.recipe"], b"")), 2);
     assert_eq!(fs::read_to_string(d.join("a.recipe")).unwrap(), TEXT_A);
     assert_eq!(status(&recipe(&d, &["asm", "a.recipe", "-o", "no/where"], b"")), 2);
-    assert_eq!(files(&d), ["a.recipe", "out"]);
+    assert_eq!(files(&d), ["a.recipe", "out.svg", "out.table"]);
 }
 
 #[cfg(unix)]
 #[test]
 fn a_link_stays_a_link() {
     let d = directory("link");
-    fs::write(d.join("real"), "old").unwrap();
+    fs::write(d.join("real"), [1; 8]).unwrap();
     std::os::unix::fs::symlink("real", d.join("link")).unwrap();
     assert_eq!(status(&recipe(&d, &["asm", "-o", "link"], TEXT_A.as_bytes())), 0);
     assert!(fs::symlink_metadata(d.join("link")).unwrap().is_symlink());
@@ -248,23 +252,37 @@ fn exit_statuses() {
     let d = directory("statuses");
     fs::write(d.join("a.recipe"), TEXT_A).unwrap();
     fs::write(d.join("stuck.recipe"), STUCK).unwrap();
+    fs::write(d.join("share.recipe"), SHARE).unwrap();
+    fs::write(d.join("refused.table"), REFUSED).unwrap();
+    fs::write(d.join("tasks.recipe"), "procedure main\n  while 1\n    spawn x main 0\n").unwrap();
+    fs::write(d.join("spent.recipe"), SPENT).unwrap();
+    let before = files(&d);
     for (due, arguments) in [
         (0, &["run", "a.recipe"][..]),
-        (0, &["run", "a.recipe", "--strict"]),
-        (0, &["run", "stuck.recipe"]),
-        (3, &["run", "stuck.recipe", "--strict"]),
-        (3, &["run", "a.recipe", "--strict", "--budget=3"]),
+        (0, &["run", "a.recipe", "--steps", "8"]),
+        (3, &["run", "a.recipe", "--steps=7"]),
+        (3, &["run", "a.recipe", "--steps", "0"]),
+        (4, &["run", "stuck.recipe"]),
+        (5, &["run", "tasks.recipe"]),
+        (5, &["run", "spent.recipe", "--quiet"]),
+        (6, &["run", "share.recipe"]),
+        (1, &["run", "refused.table"]),
         (0, &["check", "a.recipe"]),
         (0, &["dis", "a.recipe"]),
         (0, &["--version"]),
+        (0, &["-V"]),
         (2, &[]),
         (2, &["press"]),
         (2, &["run", "missing.table"]),
         (2, &["run", "."]),
         (2, &["run", "a.recipe", "--bugdet", "5"]),
-        (2, &["run", "a.recipe", "--budget", "4294967296"]),
-        (2, &["run", "a.recipe", "--budget", "-1"]),
-        (2, &["run", "a.recipe", "--log"]),
+        (2, &["run", "a.recipe", "--budget", "5"]),
+        (2, &["run", "a.recipe", "--log", "5"]),
+        (2, &["run", "a.recipe", "--strict"]),
+        (2, &["run", "a.recipe", "--steps", "-1"]),
+        (2, &["run", "a.recipe", "--slice", "0"]),
+        (2, &["run", "a.recipe", "--slice", "16777217"]),
+        (2, &["run", "a.recipe", "--slice"]),
         (2, &["run", "a.recipe", "a.recipe"]),
         (2, &["run", "a.recipe", "--resume", "missing"]),
         (2, &["run", "a.recipe", "--save", "-"]),
@@ -277,11 +295,11 @@ fn exit_statuses() {
     ] {
         let output = recipe(&d, arguments, b"");
         assert_eq!(status(&output), due, "{arguments:?}");
-        // Of a stuck run it is told why.
-        let quiet = (due == 0 || due == 3) && !arguments.contains(&"stuck.recipe");
+        // Of a stuck run and of a zero divisor it is told why.
+        let quiet = matches!(due, 0 | 3 | 5);
         assert_eq!(output.stderr.is_empty(), quiet, "{arguments:?}: {}", stderr(&output));
     }
-    assert_eq!(files(&d), ["a.recipe", "stuck.recipe"]);
+    assert_eq!(files(&d), before);
 }
 
 #[test]
@@ -298,18 +316,6 @@ fn help_is_given() {
 }
 
 #[test]
-fn a_full_log_prints_its_records() {
-    let d = directory("logfull");
-    let text = "procedure main\n  while 1\n    set valve0 1\n";
-    fs::write(d.join("v.recipe"), text).unwrap();
-    let ran = stdout(&recipe(&d, &["run", "v.recipe"], b""));
-    assert_eq!(ran.lines().count(), 4_097);
-    assert_eq!(ran.lines().last(), Some("logfull 8193"));
-    let short = stdout(&recipe(&d, &["run", "v.recipe", "--log", "1", "--budget", "9"], b""));
-    assert_eq!(short, "valve 1 0 1\nlogfull 3\n");
-}
-
-#[test]
 fn budget_and_log_hold_for_a_timeline() {
     let d = directory("limits");
     fs::write(d.join("g.recipe"), "procedure main\n  while 1\n    guard 1\n").unwrap();
@@ -323,73 +329,5 @@ fn budget_and_log_hold_for_a_timeline() {
         let drawn = stdout(&recipe(&d, &["timeline", "g.recipe", "--budget", budget, "--log", log], b""));
         assert!(drawn.contains(&format!("g.recipe: {title}<")), "{budget} {log}");
         assert!(drawn.contains(&format!(" {records}, budget {budget}.")), "{budget} {log}");
-    }
-}
-
-#[test]
-fn saved_states_are_checked() {
-    let d = directory("saved");
-    fs::write(d.join("a.table"), row_a()).unwrap();
-    fs::write(d.join("bad.table"), REFUSED).unwrap();
-    fs::write(d.join("short"), [0; STATE - 1]).unwrap();
-    fs::write(d.join("other"), [0; 520]).unwrap();
-    fs::write(d.join("zero"), [0; STATE]).unwrap();
-    for (table, state, printed) in [
-        ("a.table", "short", "refused 21 0\n"),
-        ("a.table", "other", "refused 21 0\n"),
-        ("a.table", "zero", "refused 22 0\n"),
-        ("bad.table", "short", "refused 13 1\n"),
-    ] {
-        let output = recipe(&d, &["run", table, "--resume", state], b"");
-        assert_eq!((status(&output), &*stdout(&output)), (1, printed));
-    }
-}
-
-/// Runs in slices of a budget and a log, with the state saved in between; gives the records, the steps and the ending.
-fn sliced(d: &Path, budget: &str, log: &str) -> (Vec<String>, u64, String) {
-    let (mut lines, mut steps) = (Vec::new(), 0);
-    let arguments = ["run", "r.recipe", "--budget", budget, "--log", log, "--save", "state"];
-    let mut output = recipe(d, &arguments, b"");
-    loop {
-        assert_eq!(status(&output), 0, "{}", stderr(&output));
-        assert_eq!(fs::read(d.join("state")).unwrap().len(), 776);
-        let text = stdout(&output);
-        let mut records: Vec<String> = text.lines().map(String::from).collect();
-        let last = records.pop().unwrap();
-        let (ending, count) = last.split_once(' ').unwrap();
-        lines.extend(records);
-        steps += count.parse::<u64>().unwrap();
-        if ending != "paused" && ending != "logfull" {
-            return (lines, steps, ending.to_string());
-        }
-        output = recipe(d, &[&arguments[..], &["--resume", "state"]].concat(), b"");
-    }
-}
-
-#[test]
-fn slices_equal_one_run() {
-    let d = directory("slices");
-    let text = "\
-procedure main
-    while n < 6
-        spawn last work last
-        set n n + 1
-    await last
-    set valve0 1
-procedure work before
-    set valve1 before
-    suspend
-    if 1 < before
-        await before
-    set valve2 before * 2
-";
-    fs::write(d.join("r.recipe"), text).unwrap();
-    let whole = sliced(&d, "4294967295", "1000");
-    let state = fs::read(d.join("state")).unwrap();
-    assert_eq!(whole.2, "finished");
-    assert!(whole.1 > 70, "{}", whole.1);
-    for (budget, log) in [("1", "1"), ("7", "1000"), ("1000", "3"), ("10", "4")] {
-        assert_eq!(sliced(&d, budget, log), whole, "{budget} {log}");
-        assert_eq!(fs::read(d.join("state")).unwrap(), state);
     }
 }

@@ -6,11 +6,11 @@ use std::collections::BTreeMap;
 use std::fs;
 use std::path::Path;
 
-use common::{directory, recipe, row_a, status, stderr, stdout, Generator};
+use common::{block, directory, recipe, row_a, status, stderr, stdout, Generator};
 use recipe::state;
 use recipe_runner::{records, Kind, Refusal, State, STATE, TASKS_AT, VARIABLES_AT};
 
-/// Task 2 spawns task 3 and gives way; task 3 is active when the budget of 9 is used up.
+/// Task 2 spawns task 3 and gives way; task 3 is active after 9 steps.
 const SPAWNS: &str = "\
 procedure main
   spawn a press 1
@@ -25,11 +25,11 @@ procedure drum
   suspend
 ";
 
-/// What the tool prints of the state that a run with a budget leaves.
-fn shown(d: &Path, text: &str, budget: &str) -> String {
+/// What the tool prints of the state that so many steps leave.
+fn shown(d: &Path, text: &str, steps: &str) -> String {
     fs::write(d.join("s.recipe"), text).unwrap();
-    let saved = recipe(d, &["run", "s.recipe", "--quiet", "--budget", budget, "--save", "state"], b"");
-    assert_eq!(status(&saved), 0);
+    let saved = recipe(d, &["run", "s.recipe", "--quiet", "--steps", steps, "--save", "state"], b"");
+    assert!(matches!(status(&saved), 0 | 3));
     let output = recipe(d, &["state", "state"], b"");
     assert_eq!((status(&output), &*stderr(&output)), (0, ""));
     stdout(&output)
@@ -64,21 +64,24 @@ fn fresh_and_finished_states_are_shown() {
 fn other_sizes_and_damaged_records_are_refused() {
     let d = directory("state_refused");
     shown(&d, SPAWNS, "9");
-    let whole = fs::read(d.join("state")).unwrap();
-    let refused = |bytes: &[u8], place: u32, number: u32, sentence: &str| {
+    let whole = block(&d, "state");
+    let refused = |bytes: &[u8], place: u32, number: u32, sentence: &str, note: &str| {
         fs::write(d.join("bad"), bytes).unwrap();
         let output = recipe(&d, &["state", "bad"], b"");
         let refusal = format!("refused {number} {place}");
-        let due = (1, format!("{refusal}\n"), format!("bad: {refusal}: {sentence}\n"));
+        let due = (1, format!("{refusal}\n"), format!("{note}bad: {refusal}: {sentence}\n"));
         assert_eq!((status(&output), stdout(&output), stderr(&output)), due);
-        // A resumed run refuses it with the same numbers.
-        let resumed = recipe(&d, &["run", "s.recipe", "--resume", "bad"], b"");
-        assert_eq!((status(&resumed), stdout(&resumed)), (1, due.1));
+        // A resumed run refuses it in the same words.
+        assert_eq!(recipe(&d, &["run", "s.recipe", "--resume", "bad"], b""), output);
+        assert_eq!(recipe(&d, &["why", "s.recipe", "bad"], b""), output);
     };
-    for (length, found) in [(0, "0"), (520, "520"), (STATE - 1, "775"), (STATE + 1, "more"), (4_096, "more")] {
+    let sizes = "; a saved state has 808 bytes, and a bare block 776";
+    for (length, found) in [(1, "1 byte"), (520, "520 bytes"), (STATE - 1, "775 bytes"), (STATE + 1, "777 bytes")] {
         let other: Vec<u8> = whole.iter().copied().chain([0; 4_096]).take(length).collect();
-        refused(&other, 0, 21, &format!("the state is not of 776 bytes: it has {found}"));
+        refused(&other, 0, 21, &format!("this is no saved state: it has {found}{sizes}"), "");
     }
+    refused(&[], 0, 21, &format!("the file is empty{sizes}"), "");
+    refused(&[9; 100_000], 0, 21, &format!("this is text of over 32,768 bytes, and no saved state{sizes}"), "");
     // Of the tasks 3, 2 and 1, and of the first unused one.
     for (at, byte, record, sentence) in [
         (3, 2, 0, "byte 3 is 2, and has to be 1 if a task is active, else 0"),
@@ -92,7 +95,8 @@ fn other_sizes_and_damaged_records_are_refused() {
     ] {
         let mut bytes = whole.clone();
         bytes[at] = byte;
-        refused(&bytes, record, 22, &format!("state record {record}: {sentence}"));
+        let note = "bad: this is a bare block, which carries no checksum\n";
+        refused(&bytes, record, 22, &format!("state record {record}: {sentence}"), note);
     }
 }
 
@@ -162,7 +166,7 @@ fn faults_are_the_librarys() {
     let d = directory("state_faults");
     shown(&d, SPAWNS, "9");
     let table = recipe(&d, &["asm", "s.recipe"], b"").stdout;
-    let whole = fs::read(d.join("state")).unwrap();
+    let whole = block(&d, "state");
     let mut faults = BTreeMap::new();
     for (at, byte) in (0..VARIABLES_AT).flat_map(|at| [0, 1, 2, 3, 16, 32, 33, 255].map(|byte| (at, byte))) {
         let mut bytes = whole.clone();

@@ -1,45 +1,116 @@
 //! `recipe run`.
 
-use std::io::{self, Write};
+use std::io;
 use std::path::Path;
 
-use recipe_runner::{records, Ending, Ran, Refusal, State};
+use recipe_runner::{records, Ending, Ran, State, RECORD};
 
 use crate::args::{Given, Options};
-use crate::commands::{keep_input, log, refused, show, BUDGET, LOG};
-use crate::failure::{Failure, UNFINISHED};
+use crate::commands::{accepted, keep_input, log, refused_state, resumed, show};
+use crate::content::Content;
+use crate::failure::{status_of, Failure};
 use crate::files::{self, Loaded, Source};
+use crate::progress::Progress;
 use crate::table::describe_lacking;
+use crate::words::counted;
 use crate::{asm, saved, why};
 
-/// The most records of a log.
-const LONGEST_LOG: u32 = 1 << 24;
+/// The steps of a slice, unless given.
+const SLICE: u32 = 1 << 16;
+/// The most steps of a slice.
+const LONGEST_SLICE: u32 = 1 << 24;
 
 pub const RUN: Options = Options {
     command: "run",
     files: &["FILE"],
-    valued: &["--budget", "--log", "--save", "--resume"],
-    flags: &["--quiet", "--strict"],
+    valued: &["--steps", "--slice", "--save", "--resume"],
+    flags: &["--quiet", "--force"],
 };
+
 pub fn run(given: &Given) -> Result<u8, Failure> {
-    let budget = RUN.number(given, "--budget", u32::MAX, BUDGET)?;
-    let mut log = log(RUN.number(given, "--log", LONGEST_LOG, LOG)?)?;
+    let most = RUN.count(given, "--steps", 0, u64::MAX)?;
+    let slice = RUN.count(given, "--slice", 1, LONGEST_SLICE.into())?.unwrap_or(SLICE.into());
     let (resume, save) = (RUN.state(given, "--resume")?, RUN.state(given, "--save")?);
     keep_input(&RUN, given.input().as_deref(), save)?;
     let loaded = files::load(given.input().as_deref())?;
-    let block = resume.map(|path| saved::read(Some(path), Some(&loaded.table))).transpose()?;
-    match call(&loaded.table, block.as_deref(), budget, &mut log) {
-        Ok((state, ran)) => {
-            // Shown before it is saved: a call whose records were lost can then be made again.
-            let shown = if given.flag("--quiet") { 0 } else { ran.records };
-            show(records(&log, shown), &format!("{} {}", ran.ending, ran.steps))
-                .map_err(|error| unsaved(&error, save))?;
-            save.map_or(Ok(()), |path| saved::write(path, &loaded.table, state.as_bytes()))?;
-            tell(&ending_words(&loaded, &state, ran.ending));
-            let strict = given.flag("--strict") && ran.ending != Ending::Finished;
-            Ok(if strict { UNFINISHED } else { 0 })
+    let state = begun(&loaded, resume)?;
+    files::replaceable(save, Content::State, given.flag("--force"))?;
+    // A step writes one record at most, so a slice's log is never full.
+    let log = log(u32::try_from(slice).unwrap_or(LONGEST_SLICE))?;
+    let quiet = given.flag("--quiet");
+    let mut course = Run { loaded: &loaded, resume, save, state, log, quiet, steps: 0, records: 0 };
+    let ending = course.run(most)?;
+    ending_words(&loaded, &course.state, ending).iter().for_each(|line| files::tell(line));
+    Ok(status_of(ending))
+}
+
+/// The state that a run begins with: a fresh one, or a saved one. As in the library the table is looked at first.
+fn begun(loaded: &Loaded, resume: Option<&Path>) -> Result<State, Failure> {
+    let fresh = accepted(loaded)?;
+    resume.map_or(Ok(fresh), |path| resumed(loaded, path))
+}
+
+/// A run under way.
+struct Run<'r> {
+    loaded: &'r Loaded,
+    resume: Option<&'r Path>,
+    save: Option<&'r Path>,
+    state: State,
+    /// As many records as a slice has steps.
+    log: Vec<u8>,
+    quiet: bool,
+    /// Steps made and records written so far.
+    steps: u64,
+    records: usize,
+}
+
+impl Run<'_> {
+    /// Slices until the run ends or has made the most steps.
+    fn run(&mut self, most: Option<u64>) -> Result<Ending, Failure> {
+        let mut progress = Progress::new();
+        loop {
+            let left = most.map_or(u64::MAX, |most| most.saturating_sub(self.steps));
+            let ran = self.slice(left)?;
+            let over = ran.ending != Ending::Paused || most == Some(self.steps);
+            // Printed before it is saved: a slice whose records were lost is then made again.
+            self.print(&ran, over, &mut progress)?;
+            self.save()?;
+            if over {
+                return Ok(ran.ending);
+            }
+            progress.show(|| self.progress());
         }
-        Err(refusal) => Err(refused(&loaded, refusal)),
+    }
+
+    /// One run call.
+    fn slice(&mut self, left: u64) -> Result<Ran, Failure> {
+        let room = self.log.len() / RECORD;
+        let budget = u32::try_from(left).unwrap_or(u32::MAX).min(u32::try_from(room).unwrap_or(u32::MAX));
+        let Loaded { table, .. } = self.loaded;
+        let ran = self.state.run(table, budget, &mut self.log);
+        let ran = ran.map_err(|refusal| refused_state(self.resume, &self.state, refusal))?;
+        self.steps += u64::from(ran.steps);
+        self.records += ran.records as usize;
+        Ok(ran)
+    }
+
+    /// A slice's records, and the ending behind the last slice's.
+    fn print(&self, ran: &Ran, over: bool, progress: &mut Progress) -> Result<(), Failure> {
+        let shown = if self.quiet { 0 } else { ran.records };
+        if shown > 0 || over {
+            progress.make_room();
+        }
+        let last = over.then(|| format!("{} {}", ran.ending, self.steps));
+        show(records(&self.log, shown), last.as_deref()).map_err(|error| unsaved(&error, self.save))
+    }
+
+    fn save(&self) -> Result<(), Failure> {
+        self.save.map_or(Ok(()), |path| saved::write(path, &self.loaded.table, self.state.as_bytes()))
+    }
+
+    fn progress(&self) -> String {
+        let live = counted(self.state.tasks().count(), "live task");
+        format!("{} steps, {live}, {}", self.steps, counted(self.records, "log record"))
     }
 }
 
@@ -61,27 +132,13 @@ fn lacking(Loaded { name, table, source }: &Loaded, place: u32) -> String {
     }
 }
 
-/// Tells lines on standard error.
-fn tell(lines: &[String]) {
-    let mut errors = io::stderr().lock();
-    for line in lines {
-        // The ending is printed; nothing is left to do where standard error is closed.
-        let _ = writeln!(errors, "{line}");
-    }
-}
-
-/// One run call, from a fresh state or a saved one. As in the library the table is looked at first.
-fn call(table: &[u8], block: Option<&[u8]>, budget: u32, log: &mut [u8]) -> Result<(State, Ran), Refusal> {
-    let fresh = State::start(table)?;
-    let mut state = block.map_or(Ok(fresh), State::from_bytes)?;
-    let ran = state.run(table, budget, log)?;
-    Ok((state, ran))
-}
-
-/// The failure of a run's print, which also keeps the state from being saved.
+/// The failure of a run's print, which also keeps the slice's state from being saved.
 fn unsaved(error: &io::Error, save: Option<&Path>) -> Failure {
     match save {
-        Some(path) => Failure::usage(format_args!("standard output: {error}; {} is not written", path.display())),
+        Some(path) => Failure::usage(format_args!(
+            "standard output: {error}; {} is left as it was before these records",
+            path.display()
+        )),
         None => files::printed(error),
     }
 }

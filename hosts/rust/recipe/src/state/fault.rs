@@ -30,9 +30,15 @@ impl Fault {
         })
     }
 
-    /// The fault with its number and place.
-    pub fn told(&self) -> String {
-        format!("{}: {}", self.refusal.printed(), self.sentence)
+    /// Of a task whose place is none of the table that the state is run with.
+    pub fn place(state: &State, refusal: Refusal) -> Option<Fault> {
+        let index = (refusal.place as usize).checked_sub(1)? / 2;
+        let Task { number, place, .. } = state.tasks().nth(index)?;
+        let sentence = format!(
+            "state record {}: the place {place} of task {number} is no statement of this table, nor behind a procedure's last",
+            refusal.place
+        );
+        Some(Fault { refusal, sentence })
     }
 }
 
@@ -110,9 +116,14 @@ mod tests {
         (TASKS_AT + 2 * TASK, &[3, 0, 7, 0, 0, 0, 0, 0, 1, 0, 0, 0, 0, 0, 0, 0]),
     ];
 
+    /// The fault with its number and place.
+    fn told(fault: &Fault) -> String {
+        format!("{}: {}", fault.refusal.printed(), fault.sentence)
+    }
+
     /// The fault of that state with other bytes at an index.
     fn fault(at: usize, bytes: &[u8]) -> Option<String> {
-        Fault::of(&state(&[&FINE[..], &[(at, bytes)]].concat())).map(|fault| fault.told())
+        Fault::of(&state(&[&FINE[..], &[(at, bytes)]].concat())).map(|fault| told(&fault))
     }
 
     #[test]
@@ -162,7 +173,7 @@ mod tests {
 
     #[test]
     fn other_sizes_are_told() {
-        let size = |length: usize| Fault::size(&vec![0; length]).told();
+        let size = |length: usize| told(&Fault::size(&vec![0; length]));
         assert_eq!(size(520), "refused 21 0: the state is not of 776 bytes: it has 520");
         assert_eq!(size(0), "refused 21 0: the state is not of 776 bytes: it has 0");
         assert_eq!(size(777), "refused 21 0: the state is not of 776 bytes: it has more");

@@ -190,6 +190,20 @@ pub fn recipe(directory: &Path, arguments: &[&str], input: &[u8]) -> Output {
     child.wait_with_output().unwrap()
 }
 
+/// The block in a saved state.
+pub fn block(directory: &Path, state: &str) -> Vec<u8> {
+    let saved = fs::read(directory.join(state)).unwrap();
+    assert_eq!(saved.len(), 808);
+    saved[32..].to_vec()
+}
+
+/// Puts a bare block in the place of a saved state, with bytes from an index on that a host has written.
+pub fn rewrite(directory: &Path, state: &str, at: usize, bytes: &[u8]) {
+    let mut block = block(directory, state);
+    block[at..at + bytes.len()].copy_from_slice(bytes);
+    fs::write(directory.join(state), block).unwrap();
+}
+
 pub fn status(output: &Output) -> i32 {
     output.status.code().unwrap()
 }
