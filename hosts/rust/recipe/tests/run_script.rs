@@ -12,7 +12,7 @@ use std::process::{Command, Output, Stdio};
 use common::{directory, row_a, status, stderr, stdout, TEXT_A};
 
 /// Stands for `rt run`: keeps its input, builds the program, and prints what the test wants.
-const RT: &str = "#!/bin/sh\n[ \"$*\" = run ] || exit 9\ncat >\"$KEPT\"\nmkdir -p out\n: >out/recipe_print\n\
+const RT: &str = "#!/bin/sh\n[ \"$*\" = run ] || exit 9\ncat >\"$KEPT\"\nmkdir -p out\n: >out/recipe_print.stamp\n\
                   echo 'what the prover says' >&2\nprintf '%b' \"$PRINTED\"\nexit \"$ENDS\"\n";
 
 const FIRST: &str = "run: the first call proves and builds the program, which takes some minutes\n";
@@ -64,6 +64,9 @@ fn the_status_is_that_of_the_last_line() {
 #[test]
 fn the_first_call_says_that_it_takes_time() {
     let d = tree("script_first");
+    // The gate's program.
+    fs::create_dir(d.join("crates/recipe_print/out")).unwrap();
+    fs::write(d.join("crates/recipe_print/out/recipe_print"), "").unwrap();
     // Recipe A where no file is named.
     let first = called(&d, &[], "finished 8\n", "0");
     assert_eq!((status(&first), &*stdout(&first), &*stderr(&first)), (0, "finished 8\n", FIRST));
