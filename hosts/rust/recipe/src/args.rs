@@ -137,7 +137,7 @@ fn named(file: impl AsRef<OsStr>) -> Option<PathBuf> {
 }
 
 impl Given {
-    fn value(&self, option: &str) -> Option<&OsStr> {
+    pub fn value(&self, option: &str) -> Option<&OsStr> {
         self.values.iter().find(|(name, _)| *name == option).map(|(_, value)| value.as_os_str())
     }
 

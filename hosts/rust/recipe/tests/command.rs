@@ -310,23 +310,6 @@ fn a_full_log_prints_its_records() {
 }
 
 #[test]
-fn budget_and_log_hold_for_a_timeline() {
-    let d = directory("limits");
-    fs::write(d.join("g.recipe"), "procedure main\n  while 1\n    guard 1\n").unwrap();
-    for (budget, log, title, records) in [
-        ("100", "5", "logfull, 8 steps", "5 log records"),
-        ("8", "5", "paused, 8 steps", "5 log records"),
-        ("6", "5", "paused, 6 steps", "4 log records"),
-        ("100", "0", "logfull, 1 step", "0 log records"),
-        ("0", "0", "paused, 0 steps", "0 log records"),
-    ] {
-        let drawn = stdout(&recipe(&d, &["timeline", "g.recipe", "--budget", budget, "--log", log], b""));
-        assert!(drawn.contains(&format!("g.recipe: {title}<")), "{budget} {log}");
-        assert!(drawn.contains(&format!(" {records}, budget {budget}.")), "{budget} {log}");
-    }
-}
-
-#[test]
 fn saved_states_are_checked() {
     let d = directory("saved");
     fs::write(d.join("a.table"), row_a()).unwrap();
