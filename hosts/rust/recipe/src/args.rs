@@ -18,10 +18,12 @@ pub struct Options {
 }
 
 /// Options that a subcommand once had, and what to write in their place.
-const FORMER: [(&str, &str, &str); 3] = [
+const FORMER: [(&str, &str, &str); 5] = [
     ("run", "--budget", "a run goes on to its end, and \"--steps N\" stops it earlier"),
     ("run", "--log", "the log has room for each slice's records, and \"--slice N\" gives the steps of a slice"),
     ("run", "--strict", "leave it out: the exit status always tells the ending"),
+    ("timeline", "--budget", "write --steps"),
+    ("timeline", "--log", "leave it out, or write --to for a part of the run"),
 ];
 
 /// What was given.
@@ -159,7 +161,7 @@ fn named(file: impl AsRef<OsStr>) -> Option<PathBuf> {
 }
 
 impl Given {
-    fn value(&self, option: &str) -> Option<&OsStr> {
+    pub fn value(&self, option: &str) -> Option<&OsStr> {
         self.values.iter().find(|(name, _)| *name == option).map(|(_, value)| value.as_os_str())
     }
 

@@ -4,7 +4,7 @@ use std::ffi::OsString;
 use std::io::{self, BufWriter, Write};
 use std::path::Path;
 
-use recipe_runner::{Record, Refusal, State, RECORD};
+use recipe_runner::{Record, Refusal, State};
 
 use crate::args::{Given, Options};
 use crate::content::Content;
@@ -15,11 +15,6 @@ use crate::{check, help, listing, raw, saved, state, why};
 
 mod run;
 mod timeline;
-
-/// The budget of a timeline, unless given.
-const BUDGET: u32 = 10_000;
-/// Its log's records, unless given.
-const LOG: u32 = 4_096;
 
 const ASM: Options = Options { command: "asm", files: &["FILE"], valued: &["-o"], flags: &["--force"] };
 const DIS: Options = Options { command: "dis", files: &["FILE"], valued: &["-o"], flags: &["--raw", "--force"] };
@@ -115,15 +110,6 @@ fn keep_input(options: &Options, input: Option<&Path>, output: Option<&Path>) ->
     Ok(())
 }
 
-/// A log of zeros.
-fn log(records: u32) -> Result<Vec<u8>, Failure> {
-    let length = records as usize * RECORD;
-    let mut log = Vec::new();
-    log.try_reserve_exact(length).map_err(|error| Failure::usage(format_args!("the log: {error}")))?;
-    log.resize(length, 0);
-    Ok(log)
-}
-
 /// Prints a refusal as the library gives it; the failure has it in words.
 fn printing_refusals(result: Result<u8, Failure>) -> Result<u8, Failure> {
     if let Err(Failure { refusal: Some(refusal), .. }) = &result {
@@ -135,6 +121,12 @@ fn printing_refusals(result: Result<u8, Failure>) -> Result<u8, Failure> {
 /// The fresh state of a table that is accepted.
 fn accepted(Loaded { name, table, .. }: &Loaded) -> Result<State, Failure> {
     State::start(table).map_err(|refusal| Failure::refused(name, table, refusal))
+}
+
+/// The state that a run begins with: a fresh one, or a saved one. As in the library the table is looked at first.
+fn begun(loaded: &Loaded, resume: Option<&Path>) -> Result<State, Failure> {
+    let fresh = accepted(loaded)?;
+    resume.map_or(Ok(fresh), |path| resumed(loaded, path))
 }
 
 /// The state that was saved in a run of a table. Its content is checked by the library's call.

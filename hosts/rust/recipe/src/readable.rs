@@ -179,3 +179,13 @@ impl<'a> Assembler<'a> {
         Ok(())
     }
 }
+
+/// The names of a text's procedures, in their order; none of a text in the table's own notation.
+pub fn procedures(text: &str) -> Vec<String> {
+    let lines = lines(text).unwrap_or_default();
+    let named = lines.iter().filter(|line| line.indent == 0).filter_map(|line| {
+        let mut cursor = Cursor::new(line);
+        cursor.accept("procedure").and_then(|_| cursor.word("").ok())
+    });
+    named.map(|(name, _)| name.to_string()).collect()
+}

@@ -4,10 +4,13 @@ use std::fmt::Write;
 
 /// How wide a character is taken to be, in sizes of the font. Few fonts have text that is wider on average.
 const CHARACTER: f64 = 0.65;
+/// The same of scripts whose characters fill a square, which begin there.
+const SQUARE: f64 = 1.1;
+const SQUARES: char = '\u{1100}';
 
 /// A width for text of a font size that is enough for it.
 pub fn text_width(text: &str, size: f64) -> f64 {
-    text.chars().count() as f64 * size * CHARACTER
+    text.chars().map(|c| size * if c < SQUARES { CHARACTER } else { SQUARE }).sum()
 }
 
 /// Text without the characters that mean something in XML, or that it cannot hold.
@@ -115,6 +118,13 @@ mod tests {
     #[test]
     fn text_is_escaped() {
         assert_eq!(escape("a<b> & \"c\"'\u{1}é"), "a&lt;b&gt; &amp; &quot;c&quot;&#39;\u{fffd}é");
+    }
+
+    #[test]
+    fn characters_of_some_scripts_are_wide() {
+        assert_eq!(text_width("größe", 10.0), 32.5);
+        assert_eq!(text_width("圧力", 10.0), 22.0);
+        assert_eq!(text_width("", 10.0), 0.0);
     }
 
     #[test]

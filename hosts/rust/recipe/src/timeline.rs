@@ -1,17 +1,14 @@
 //! What each task does in the course of a run.
 //!
 //! Time is counted in log records: record `i` takes the time from `i` to `i + 1`, and what happens at it is placed in
-//! its middle. The run begins with a fresh state.
+//! its middle. The run begins with a fresh state or a saved one.
 
 use std::collections::BTreeMap;
 
 use recipe_runner::{Ending, Kind, Record};
 
 use crate::block::Wait;
-use crate::course::{Course, Seen};
-
-/// The first task, active in a fresh state.
-const MAIN: u16 = 1;
+use crate::course::{Course, Live, Seen};
 
 #[derive(Clone, Copy, Debug, PartialEq)]
 pub enum Doing {
@@ -52,11 +49,22 @@ pub struct Spawn {
     pub spawned: u16,
 }
 
+/// A value that a valve has from a time on, and the task that set it; none where the run begins with it.
+#[derive(Clone, Copy, Debug, PartialEq)]
+pub struct Level {
+    pub from: f64,
+    pub value: i32,
+    pub task: Option<u16>,
+}
+
 /// The life of one task.
 #[derive(Clone, Debug, Default, PartialEq)]
 pub struct Lane {
     /// The task that spawned it; none of the main task.
     pub starter: Option<u16>,
+    /// The procedure that it runs, by its number.
+    pub procedure: Option<u16>,
+    /// Up to the run's end.
     pub taken_up: u32,
     pub bars: Vec<Bar>,
     pub turns: Vec<Turn>,
@@ -89,6 +97,55 @@ impl Lane {
         self.is_seen_to_wait(wait);
         self.held = Some(wait);
     }
+
+    /// The part of it that lies in a window; none where the task is not live there.
+    fn part(&self, window: Window) -> Option<Lane> {
+        let bars: Vec<Bar> = self.bars.iter().filter_map(|bar| window.bar(bar)).collect();
+        if bars.is_empty() {
+            return None;
+        }
+        Some(Lane {
+            starter: self.starter,
+            procedure: self.procedure,
+            taken_up: self.taken_up,
+            bars,
+            turns: window.events(&self.turns, |turn| turn.at),
+            settings: window.events(&self.settings, |setting| setting.at),
+            ended: self.ended.filter(|end| window.from < *end && *end <= window.to),
+            held: self.held.filter(|_| window.last),
+        })
+    }
+}
+
+/// A part of the time.
+#[derive(Clone, Copy, Debug)]
+struct Window {
+    from: f64,
+    to: f64,
+    /// Whether it reaches to the run's end.
+    last: bool,
+}
+
+impl Window {
+    fn events<T: Copy>(self, events: &[T], at: impl Fn(&T) -> f64) -> Vec<T> {
+        events.iter().filter(|event| self.from < at(event) && at(event) < self.to).copied().collect()
+    }
+
+    /// The part of a bar that lies in the window. One that begins at the run's end has no width there and is kept: it
+    /// tells what its task does then.
+    fn bar(self, bar: &Bar) -> Option<Bar> {
+        let begins = bar.from < self.to || self.last;
+        let ends = bar.to.is_none_or(|to| self.from < to);
+        let to = if self.last { bar.to } else { Some(bar.to.map_or(self.to, |to| to.min(self.to))) };
+        (begins && ends).then_some(Bar { doing: bar.doing, from: bar.from.max(self.from), to })
+    }
+
+    /// The levels of a valve, the first of them the one at the left edge.
+    fn levels(self, levels: &[Level]) -> Vec<Level> {
+        let before = levels.iter().rev().find(|level| level.from <= self.from);
+        let first = before.map(|level| Level { from: self.from, ..*level });
+        first.into_iter().chain(self.events(levels, |level| level.from)).collect()
+    }
 }
 
 /// The task at whose statement a missing value stopped the run, and the statement's record.
@@ -98,23 +155,32 @@ pub struct Lacking {
     pub place: u32,
 }
 
-#[derive(Clone, Debug, PartialEq)]
+#[derive(Clone, Debug, Default, PartialEq)]
 pub struct Timeline {
     /// By task number.
     pub lanes: BTreeMap<u16, Lane>,
     pub spawns: Vec<Spawn>,
+    /// By valve, each with its value at the left edge first.
+    pub valves: Vec<Vec<Level>>,
+    /// The records of the run, and the part of them that is shown.
     pub records: usize,
+    pub from: usize,
+    pub to: usize,
     pub lacking: Option<Lacking>,
 }
 
 impl Timeline {
+    /// What the tasks and valves do in a course.
     pub fn of(course: &Course) -> Timeline {
-        let mut timeline = Timeline { lanes: BTreeMap::new(), spawns: Vec::new(), records: 0, lacking: None };
-        timeline.lane(MAIN).begin(Doing::Burst, 0.0);
+        let mut timeline = Timeline::default();
+        let begins = |value: &i32| vec![Level { from: 0.0, value: *value, task: None }];
+        timeline.valves = course.valves.iter().map(begins).collect();
+        course.live.iter().for_each(|live| timeline.take_over(live));
         for seen in &course.seen {
             timeline.add(*seen);
             timeline.records += 1;
         }
+        timeline.to = timeline.records;
         match course.ending {
             // Every queued task waits at what it stands at.
             Ending::Stuck => course.standing.iter().for_each(|(task, wait)| timeline.lane(*task).is_held(*wait)),
@@ -122,6 +188,36 @@ impl Timeline {
             _ => {}
         }
         timeline
+    }
+
+    /// What lies between two counts of records.
+    pub fn part(&self, from: usize, to: usize) -> Timeline {
+        let to = to.min(self.to);
+        let window = Window { from: from as f64, to: to as f64, last: to == self.records };
+        let lanes = self.lanes.iter().filter_map(|(task, lane)| Some((*task, lane.part(window)?)));
+        Timeline {
+            lanes: lanes.collect(),
+            spawns: window.events(&self.spawns, |spawn| spawn.at),
+            valves: self.valves.iter().map(|levels| window.levels(levels)).collect(),
+            records: self.records,
+            from,
+            to,
+            lacking: self.lacking.filter(|_| window.last),
+        }
+    }
+
+    /// The valves that are set or not 0, each with its levels.
+    pub fn used_valves(&self) -> impl Iterator<Item = (usize, &[Level])> {
+        let used = |levels: &[Level]| levels.len() > 1 || levels.iter().any(|level| level.value != 0);
+        self.valves.iter().map(Vec::as_slice).enumerate().filter(move |(_, levels)| used(levels))
+    }
+
+    /// A task that the run begins with.
+    fn take_over(&mut self, Live { task, procedure, active, wait }: &Live) {
+        let queued = wait.map_or(Doing::Queued, Doing::Waits);
+        let lane = self.lane(task.number);
+        (lane.starter, lane.procedure, lane.taken_up) = (task.spawner, *procedure, task.taken_up);
+        lane.begin(if *active { Doing::Burst } else { queued }, 0.0);
     }
 
     /// The task whose burst lasts until the run's end.
@@ -134,7 +230,7 @@ impl Timeline {
         self.lanes.entry(task).or_default()
     }
 
-    fn add(&mut self, Seen { record, at_guard }: Seen) {
+    fn add(&mut self, Seen { record, at_guard, procedure }: Seen) {
         let Record { kind, task, valve, value } = record;
         let wait = if at_guard { Wait::Guard } else { Wait::Await(value) };
         let begin = self.records as f64;
@@ -142,7 +238,7 @@ impl Timeline {
         let lane = self.lane(task);
         match kind {
             Kind::Taken => {
-                lane.taken_up += 1;
+                lane.taken_up = lane.taken_up.saturating_add(1);
                 lane.begin(Doing::Burst, begin);
             }
             Kind::Gave => lane.begin(Doing::Queued, end),
@@ -151,7 +247,11 @@ impl Timeline {
                 lane.is_seen_to_wait(wait);
                 lane.turns.push(Turn { at, wait });
             }
-            Kind::Valve => lane.settings.push(Setting { at, valve, value }),
+            Kind::Valve => {
+                lane.settings.push(Setting { at, valve, value });
+                let levels = self.valves.get_mut(usize::from(valve));
+                levels.into_iter().for_each(|levels| levels.push(Level { from: at, value, task: Some(task) }));
+            }
             Kind::Ended => {
                 lane.finish(end);
                 lane.ended = Some(end);
@@ -160,7 +260,7 @@ impl Timeline {
                 // A number issued is 1 to 65,535.
                 let spawned = u16::try_from(value).unwrap_or_default();
                 let lane = self.lane(spawned);
-                lane.starter = Some(task);
+                (lane.starter, lane.procedure) = (Some(task), procedure);
                 lane.begin(Doing::Queued, at);
                 self.spawns.push(Spawn { at, spawner: task, spawned });
             }
@@ -171,14 +271,19 @@ impl Timeline {
 #[cfg(test)]
 mod tests {
     use super::*;
+    use recipe_runner::Task;
 
     /// The course with these records: kind, task, valve, value, and whether it is a wait's at a guard.
     fn course(log: &[(Kind, u16, u8, i32, bool)], ending: Ending, standing: &[(u16, Wait)]) -> Course {
         let seen = log.iter().map(|(kind, task, valve, value, at_guard)| Seen {
             record: Record { kind: *kind, task: *task, valve: *valve, value: *value },
             at_guard: *at_guard,
+            procedure: None,
         });
-        Course { seen: seen.collect(), ending, steps: 0, standing: standing.iter().copied().collect() }
+        let task = Task { number: 1, place: 1, parameter: 0, spawner: None, taken_up: 0 };
+        let live = vec![Live { task, procedure: Some(0), active: true, wait: None }];
+        let (seen, standing) = (seen.collect(), standing.iter().copied().collect());
+        Course { live, valves: vec![0; 8], seen, ending, steps: 0, standing }
     }
 
     #[test]
@@ -205,6 +310,10 @@ mod tests {
         assert_eq!(starters, [(None, 1), (Some(1), 1)]);
         assert_eq!(timeline.lanes[&2].bars, [bar(Doing::Queued, 0.5, 2.0), bar(Doing::Burst, 2.0, 5.0)]);
         assert_eq!(timeline.lanes[&2].settings, [Setting { at: 3.5, valve: 1, value: 5 }]);
+        let level = |from, value, task| Level { from, value, task };
+        let levels = [level(0.0, 0, None), level(3.5, 5, Some(2))];
+        assert_eq!(timeline.used_valves().last(), Some((1, &levels[..])));
+        assert_eq!(timeline.used_valves().count(), 2);
     }
 
     #[test]

@@ -314,20 +314,3 @@ fn help_is_given() {
         assert!(stdout(&recipe(&d, &["--help"], b"")).contains(&format!("\n  {command} ")));
     }
 }
-
-#[test]
-fn budget_and_log_hold_for_a_timeline() {
-    let d = directory("limits");
-    fs::write(d.join("g.recipe"), "procedure main\n  while 1\n    guard 1\n").unwrap();
-    for (budget, log, title, records) in [
-        ("100", "5", "logfull, 8 steps", "5 log records"),
-        ("8", "5", "paused, 8 steps", "5 log records"),
-        ("6", "5", "paused, 6 steps", "4 log records"),
-        ("100", "0", "logfull, 1 step", "0 log records"),
-        ("0", "0", "paused, 0 steps", "0 log records"),
-    ] {
-        let drawn = stdout(&recipe(&d, &["timeline", "g.recipe", "--budget", budget, "--log", log], b""));
-        assert!(drawn.contains(&format!("g.recipe: {title}<")), "{budget} {log}");
-        assert!(drawn.contains(&format!(" {records}, budget {budget}.")), "{budget} {log}");
-    }
-}

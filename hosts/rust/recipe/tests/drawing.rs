@@ -2,10 +2,13 @@
 
 mod common;
 
+use common::Generator;
 use recipe::asm::assemble;
-use recipe::course::Course;
-use recipe::picture::{draw, Heading};
-use recipe::timeline::{Spawn, Timeline};
+use recipe::course::{Course, Most};
+use recipe::picture::{draw, Heading, MOST_BYTES};
+use recipe::readable::procedures;
+use recipe::timeline::{Bar, Doing, Lane, Spawn, Timeline};
+use recipe_runner::State;
 
 const TWO: &str = "procedure main\n  spawn x press 5\n  await x\n  set valve0 1\nprocedure press p\n  set valve1 p\n";
 
@@ -88,6 +91,7 @@ procedure late
 
 /// An await of 0 that passes when it is tried, and one that its task stands at from its spawn on.
 const ZERO: &str = "\
+variable nobody 20
 procedure main
     spawn a rest 0
     await nobody
@@ -100,6 +104,7 @@ procedure late
 
 /// Task 2 divides by a count of sensors that is 0, while main and a task at a guard without a value wait.
 const DIVISOR: &str = "\
+variable sensors 20
 procedure main
     spawn a hold 0
     spawn b share 600
@@ -114,6 +119,7 @@ procedure share flow
 
 /// Task 3 waits for task 1, tasks 1 and 2 for each other, task 4 at a guard.
 const CIRCLE: &str = "\
+variable pressure 12
 procedure main
     set first 1
     spawn second press first
@@ -143,11 +149,20 @@ procedure change
     set number -2147483648
 ";
 
-fn picture(text: &str, budget: u32) -> (String, Timeline) {
-    let course = Course::of(&assemble(text).unwrap(), budget, &mut [0; 8 * 4_096]).unwrap();
+fn course(text: &str, steps: u32) -> Course {
+    let table = assemble(text).unwrap();
+    Course::of(&table, &State::start(&table).unwrap(), Most { steps, records: 1_000_000 }).unwrap()
+}
+
+fn drawn(course: &Course, timeline: &Timeline, procedures: &[String]) -> String {
+    let (ending, steps) = (course.ending, course.steps);
+    draw(timeline, &Heading { name: "a<b&c>.recipe", ending, steps, most: steps, resumed: None, procedures })
+}
+
+fn picture(text: &str, steps: u32) -> (String, Timeline) {
+    let course = course(text, steps);
     let timeline = Timeline::of(&course);
-    let heading = Heading { name: "a<b&c>.recipe", ending: course.ending, steps: course.steps, budget };
-    (draw(&timeline, &heading), timeline)
+    (drawn(&course, &timeline, &[]), timeline)
 }
 
 /// Holds a document to matching tags.
@@ -179,7 +194,7 @@ fn boxes(document: &str) -> Vec<(f64, f64, f64, f64, String)> {
         let class = head.split('"').nth(1).unwrap();
         let size = match class {
             "title" => 17.0,
-            "tick" | "note" | "note guardnote" | "flagtext" | "starter" => 10.0,
+            "tick" | "note" | "note guardnote" | "flagtext" | "starter" | "range" | "head" | "value" => 10.0,
             _ => 12.0,
         };
         let text = text.split("<title>").next().unwrap();
@@ -187,7 +202,7 @@ fn boxes(document: &str) -> Vec<(f64, f64, f64, f64, String)> {
         let width = text.chars().count() as f64 * size * 0.6;
         let (x, y) = (attribute(&format!(" {head}"), "x"), attribute(&format!(" {head}"), "y"));
         let left = match class {
-            "label" | "starter" => x - width,
+            "label" | "starter" | "range" => x - width,
             "tick" => x - width / 2.0,
             _ => x,
         };
@@ -270,7 +285,8 @@ fn spawns_lead_from_the_starter_to_the_started_task() {
             assert!((attribute(arrow, "y1") - from).abs() < 3.0 && (attribute(arrow, "y2") - to).abs() < 10.0, "{at}");
             assert_eq!(timeline.lanes[spawned].starter, Some(*spawner));
             assert!(document.contains(&format!("task {spawner} spawns task {spawned}")));
-            assert!(document.contains(&format!("task {spawned}: started by task {spawner}, taken up ")));
+            let tip = format!("task {spawned}: runs procedure {}, ", timeline.lanes[spawned].procedure.unwrap());
+            assert!(document.contains(&format!("{tip}started by task {spawner}, taken up ")));
         }
         let named = boxes(&document).into_iter().filter(|(.., text)| text.starts_with("by task "));
         assert_eq!(named.count(), timeline.spawns.len());
@@ -284,9 +300,9 @@ fn a_label_tells_the_starter_and_the_times_taken_up() {
                 procedure rest\n  skip\n";
     let (document, _) = picture(text, 10_000);
     for (label, tip) in [
-        ("task 1", "task 1: taken up 0 times"),
-        ("task 2", "task 2: started by task 1, taken up 3 times"),
-        ("task 3", "task 3: started by task 2, taken up 1 time"),
+        ("task 1", "task 1: runs procedure 0, taken up 0 times"),
+        ("task 2", "task 2: runs procedure 1, started by task 1, taken up 3 times"),
+        ("task 3", "task 3: runs procedure 2, started by task 2, taken up 1 time"),
     ] {
         assert!(document.contains(&format!(">{label}<title>{tip}</title></text>")), "{document}");
     }
@@ -386,4 +402,299 @@ fn guards_and_awaits_are_told_apart() {
     assert!(!document.contains("turned: ") && !document.contains("task 3: awaits"));
     // The legend has the only one.
     assert_eq!(document.matches("class=\"guard\"").count(), 1);
+}
+
+/// Thirty-two tasks that give way, wait at guards and set a valve, for 10,000 steps.
+const CROWD: &str = "\
+procedure main
+    while n < 31
+        spawn last work n
+        set n n + 1
+    while 1
+        suspend
+procedure work level
+    while 1
+        set count count + 1
+        if count / 97 * 97 == count
+            set valve1 level
+        if level < 8
+            suspend
+        guard level < count
+";
+
+/// Two thousand tasks, each awaited, and some that outlive the next ones.
+const SPAWNING: &str = "\
+procedure main
+    while n < 2000
+        spawn last work n
+        await last
+        if n / 10 * 10 == n
+            spawn slow linger n
+        set n n + 1
+procedure work level
+    set valve1 level
+procedure linger level
+    while turns < level + 5
+        set turns turns + 1
+        suspend
+";
+
+/// Five thousand settings of one valve, and some of others.
+const SETTING: &str = "\
+procedure main
+    while n < 5000
+        set valve0 n
+        if n / 100 * 100 == n
+            set valve2 n - n / 1000 * 1000
+        if n == 2500
+            set valve3 -7
+        set n n + 1
+";
+
+/// A run without an end, that sets every valve to values of every size.
+const ENDLESS: &str = "\
+procedure main
+    while n < 25
+        spawn last rest_with_a_name_that_is_long n
+        set n n + 1
+    while 1
+        set x x * 1103515245 + 12345
+        set valve0 x
+        set valve1 0 - x / 3
+        set valve2 n
+        set valve3 x / 1000
+        spawn last end_with_a_name_that_is_long x
+        set valve4 last
+        set valve5 last / 100
+        set valve6 last / 2 * 2 - last
+        set valve7 2147483647
+        await last
+procedure rest_with_a_name_that_is_long level
+    while 1
+        set valve2 level
+        suspend
+        guard level - level / 2 * 2 + 1
+procedure end_with_a_name_that_is_long level
+    set valve6 level
+";
+
+fn is_bounded(document: &str) {
+    let (width, height) = (attribute(document, "width"), attribute(document, "height"));
+    assert!(width <= 2_000.0 && height <= 3_000.0, "{width} x {height}");
+    assert!(document.len() <= MOST_BYTES, "{} bytes", document.len());
+    well_formed(document);
+    apart(document);
+}
+
+#[test]
+fn long_runs_give_bounded_pictures() {
+    for (text, steps, joined) in [
+        (CROWD, 10_000, true),
+        (CROWD, 3_000_000, true),
+        (SPAWNING, 100_000, true),
+        (SETTING, 100_000, true),
+        (ENDLESS, 30_000, true),
+        (ENDLESS, 3_000_000, true),
+        (ENDLESS, 700, false),
+        (MANY, 10_000, false),
+    ] {
+        let course = course(text, steps);
+        let names = procedures(text);
+        let whole = Timeline::of(&course);
+        let document = drawn(&course, &whole, &names);
+        is_bounded(&document);
+        assert_eq!(document.contains(">Joined: what is narrower than "), joined);
+        for (from, to) in [(0, 1), (100, 160), (0, 900), (whole.records / 2, whole.records)] {
+            is_bounded(&drawn(&course, &whole.part(from, to), &names));
+        }
+    }
+}
+
+#[test]
+fn a_picture_that_would_be_too_large_is_coarser() {
+    for (text, steps, coarse) in [(CROWD, 10_000, false), (SETTING, 100_000, false), (ENDLESS, 30_000, true)] {
+        let (document, _) = picture(text, steps);
+        assert_eq!(document.contains(">Joined: what is narrower than a pixel, "), !coarse);
+        assert_eq!(document.contains(" pixels, and arrows, turns or settings side by side."), coarse);
+    }
+}
+
+#[test]
+fn pictures_of_generated_tables_are_bounded() {
+    let mut generator = Generator::new(11);
+    let (mut crowded, mut dense) = (0, 0);
+    let names: Vec<String> = (0..8).map(|number| format!("<p&{number}>")).collect();
+    for _ in 0..400 {
+        let table = generator.table();
+        let most = Most { steps: 20_000, records: 5_000 };
+        let course = Course::of(&table, &State::start(&table).unwrap(), most).unwrap();
+        let timeline = Timeline::of(&course);
+        let document = drawn(&course, &timeline, &names);
+        is_bounded(&document);
+        crowded += usize::from(timeline.lanes.len() > 40);
+        dense += usize::from(document.contains(">Joined: "));
+        assert!(document.contains("&lt;p&amp;0&gt;") && !document.contains("<p&"));
+    }
+    assert!(crowded > 10 && dense > 10, "{crowded} {dense}");
+}
+
+/// The texts of a class, with their left ends and baselines.
+fn texts(document: &str, class: &str) -> Vec<(f64, f64, String)> {
+    let begin = format!("<text class=\"{class}\"");
+    let elements = document.split(&begin).skip(1);
+    let told = elements.map(|element| {
+        let (head, text) = element.split_once('>').unwrap();
+        let text = text.split('<').next().unwrap().to_string();
+        (attribute(head, "x"), attribute(head, "y"), text)
+    });
+    told.collect()
+}
+
+fn labels(document: &str) -> Vec<String> {
+    texts(document, "label").into_iter().map(|(_, _, text)| text).collect()
+}
+
+#[test]
+fn lanes_are_labelled_with_names() {
+    let course = course(TWO, 100);
+    let timeline = Timeline::of(&course);
+    assert_eq!(labels(&drawn(&course, &timeline, &procedures(TWO)))[..2], ["task 1 main", "task 2 press"]);
+    let long = ["m".to_string(), "x".repeat(40)];
+    let document = drawn(&course, &timeline, &long);
+    assert_eq!(labels(&document)[1], format!("task 2 {}...", "x".repeat(16)));
+    assert!(document.contains(&format!("task 2: runs {}, started by task 1", "x".repeat(40))));
+    // One name too few.
+    assert_eq!(labels(&drawn(&course, &timeline, &long[..1]))[..2], ["task 1 m", "task 2"]);
+}
+
+#[test]
+fn names_are_those_of_the_text() {
+    assert_eq!(procedures(TWO), ["main", "press"]);
+    let text = "# procedure x\nprocedure größe a # b\n  skip\nvariable v 9\nprocedure z\n";
+    assert_eq!(procedures(text), ["größe", "z"]);
+    assert_eq!(procedures("1(0,0,0)"), Vec::<String>::new());
+}
+
+#[test]
+fn valves_have_lanes_with_their_values() {
+    let (document, _) = picture(TWELVE, 10_000);
+    let valves: Vec<String> = labels(&document).into_iter().filter(|label| label.starts_with("valve")).collect();
+    let due = [0, 1, 2, 4, 5, 6, 7].map(|valve| format!("valve {valve}"));
+    assert_eq!(valves, due);
+    let (document, timeline) = picture(TWO, 100);
+    assert_eq!(labels(&document), ["task 1", "task 2", "valve 0", "valve 1"]);
+    let values: Vec<_> = texts(&document, "value").into_iter().map(|(_, _, text)| text).collect();
+    assert_eq!(values, ["0", "1", "0", "5"]);
+    assert!(document.contains(">valve 1: 5, set by task 2<") && document.contains(">task 2 sets valve 1 to 5<"));
+    assert_eq!(texts(&document, "range").into_iter().map(|(_, _, text)| text).collect::<Vec<_>>(), ["0 to 5"]);
+    // A valve that is not set, and one that holds a value from before.
+    let late = timeline.part(5, 8);
+    assert_eq!(late.used_valves().map(|(valve, _)| valve).collect::<Vec<_>>(), [0, 1]);
+    let early = timeline.part(0, 3);
+    assert_eq!(early.used_valves().count(), 0);
+}
+
+#[test]
+fn a_valve_that_is_set_in_a_loop_is_joined() {
+    let (document, timeline) = picture(SETTING, 100_000);
+    assert_eq!(timeline.lanes[&1].settings.len(), 5_051);
+    for part in [" values joined<", ">task 1: 5051 settings<", ">valve 3: -7, set by task 1<", ">900<"] {
+        assert!(document.contains(part), "{part}");
+    }
+    assert!(document.matches("class=\"valve\"").count() < 10);
+}
+
+#[test]
+fn later_tasks_reuse_lanes() {
+    let (document, timeline) = picture(SPAWNING, 100_000);
+    assert_eq!(timeline.lanes.len(), 2_201);
+    let tasks: Vec<String> = labels(&document).into_iter().filter(|label| label.starts_with("task")).collect();
+    assert!((3..=32).contains(&tasks.len()), "{tasks:?}");
+    assert!(tasks.iter().any(|label| label.starts_with("tasks 2, ") && label.ends_with(", ...")), "{tasks:?}");
+    assert!(document.contains(&format!(">2201 tasks in {} lanes, ", tasks.len())));
+    assert!(document.contains(" arrows and ") && document.contains("Left out, as others are near: "));
+    // Where there is room, each task is named where it begins.
+    let course = course(SPAWNING, 100_000);
+    let part = Timeline::of(&course).part(0, 300);
+    assert!(part.lanes.len() > 40);
+    let document = drawn(&course, &part, &procedures(SPAWNING));
+    let heads = texts(&document, "head");
+    assert!(heads.iter().any(|(_, _, text)| text == "2 linger" || text == "3 linger"), "{heads:?}");
+    assert!(!document.contains(">Joined: "));
+}
+
+/// What a task does at a time.
+fn doing(timeline: &Timeline, task: u16, time: f64) -> Option<Doing> {
+    let bar = |bar: &&Bar| bar.from <= time && bar.to.is_none_or(|to| time < to);
+    timeline.lanes.get(&task)?.bars.iter().find(bar).map(|bar| bar.doing)
+}
+
+/// The value of a valve at a time.
+fn value(timeline: &Timeline, valve: usize, time: f64) -> i32 {
+    timeline.valves[valve].iter().rev().find(|level| level.from <= time).unwrap().value
+}
+
+/// The times of events that lie in a window.
+fn within(times: impl Iterator<Item = f64>, from: usize, to: usize) -> Vec<f64> {
+    times.filter(|time| from as f64 <= *time && *time <= to as f64).collect()
+}
+
+fn is_part(whole: &Timeline, part: &Timeline, from: usize, to: usize) {
+    assert_eq!((part.from, part.to, part.records), (from, to, whole.records));
+    let times: Vec<f64> = (4 * from..4 * to).filter(|quarter| quarter % 2 == 1).map(|q| q as f64 / 4.0).collect();
+    for (task, lane) in &whole.lanes {
+        let (of_whole, of_part): (Vec<_>, Vec<_>) =
+            times.iter().map(|time| (doing(whole, *task, *time), doing(part, *task, *time))).unzip();
+        assert_eq!(of_whole, of_part, "task {task}");
+        let Some(other) = part.lanes.get(task) else {
+            assert!(of_whole.iter().all(Option::is_none));
+            continue;
+        };
+        assert_eq!((lane.starter, lane.procedure, lane.taken_up), (other.starter, other.procedure, other.taken_up));
+        let turns = |lane: &Lane| within(lane.turns.iter().map(|turn| turn.at), from, to);
+        let settings = |lane: &Lane| within(lane.settings.iter().map(|setting| setting.at), from, to);
+        assert_eq!((turns(lane), settings(lane)), (turns(other), settings(other)));
+        assert_eq!((other.turns.len(), other.settings.len()), (turns(other).len(), settings(other).len()));
+        assert!(other.bars.iter().all(|bar| from as f64 <= bar.from && bar.to.is_none_or(|end| end <= to as f64)));
+        assert!(to == whole.records || other.bars.iter().all(|bar| bar.to.is_some()));
+    }
+    let spawns = |timeline: &Timeline| within(timeline.spawns.iter().map(|spawn| spawn.at), from, to);
+    assert_eq!((spawns(whole), part.spawns.len()), (spawns(part), spawns(part).len()));
+    for time in &times {
+        assert!((0..8).all(|valve| value(whole, valve, *time) == value(part, valve, *time)), "{time}");
+    }
+}
+
+#[test]
+fn a_window_is_the_same_part_of_the_whole() {
+    let mut generator = Generator::new(12);
+    for _ in 0..300 {
+        let table = generator.table();
+        let most = Most { steps: 500, records: 100 };
+        let whole = Timeline::of(&Course::of(&table, &State::start(&table).unwrap(), most).unwrap());
+        for _ in 0..4 {
+            let from = generator.random.below(whole.records + 1);
+            let to = from + generator.random.below(whole.records - from + 1);
+            is_part(&whole, &whole.part(from, to), from, to);
+        }
+        assert_eq!(whole.part(0, whole.records), whole);
+    }
+    for text in [TWO, TWELVE, MANY, GUARDS, ZERO, DIVISOR, CIRCLE, SPAWNING] {
+        let whole = Timeline::of(&course(text, 4_000));
+        let (from, to) = (whole.records / 3, 2 * whole.records / 3);
+        is_part(&whole, &whole.part(from, to), from, to);
+    }
+}
+
+#[test]
+fn a_window_before_the_end_has_no_end_in_it() {
+    for (text, sign) in [(CIRCLE, "waits for 2"), (DIVISOR, "stopped: record 15")] {
+        let course = course(text, 10_000);
+        let whole = Timeline::of(&course);
+        let last = drawn(&course, &whole.part(2, whole.records), &[]);
+        let before = drawn(&course, &whole.part(2, whole.records - 1), &[]);
+        // The legend has a wait and the run's end, too.
+        assert_eq!(last.matches(sign).count(), before.matches(sign).count() + 1, "{text}");
+        assert_eq!((last.matches("class=\"end\"").count(), before.matches("class=\"end\"").count()), (2, 1));
+    }
 }

@@ -7,8 +7,6 @@ use std::path::{Path, PathBuf};
 use std::process::{Command, Stdio};
 
 use common::{block, directory, recipe, row_a, status, stderr, stdout, REFUSED, TEXT_A};
-use recipe::content::Content;
-use recipe::files;
 
 /// A directory with a file of each kind, and what they hold.
 fn with_files(name: &str) -> PathBuf {
@@ -29,12 +27,13 @@ fn with_files(name: &str) -> PathBuf {
 const KINDS: [&str; 8] = ["table", "damaged.table", "text", "picture", "other", "empty", "state", "block"];
 
 /// A command that writes to a file, the kinds that it may replace, and what it writes.
-fn writers() -> [(&'static [&'static str], &'static [&'static str]); 4] {
+fn writers() -> [(&'static [&'static str], &'static [&'static str]); 5] {
     [
         (&["asm", "a.recipe", "-o"], &["table", "damaged.table", "empty"]),
         (&["dis", "a.table", "-o"], &["text", "empty"]),
         (&["run", "a.table", "--save"], &["state", "block", "empty"]),
         (&["state", "start", "--block"], &["state", "block", "empty"]),
+        (&["timeline", "a.table", "-o"], &["picture", "empty"]),
     ]
 }
 
@@ -78,18 +77,6 @@ fn other_kinds_are_named() {
     assert_eq!(stderr(&recipe(&d, &["asm", "a.recipe", "-o", "."], b"")).lines().count(), 1);
 }
 
-/// What a timeline asks before it writes.
-#[test]
-fn a_picture_replaces_pictures_alone() {
-    let d = with_files("kept_picture");
-    for kind in KINDS {
-        let path = d.join(kind);
-        let allowed = files::write_over(Some(&path), b"<svg>", Content::Picture, false).is_ok();
-        assert_eq!(allowed, kind == "picture" || kind == "empty", "{kind}");
-        assert!(files::write_over(Some(&path), b"<svg>", Content::Picture, true).is_ok(), "{kind}");
-    }
-}
-
 #[test]
 fn an_input_is_never_written_over() {
     let d = with_files("kept_input");
@@ -102,6 +89,8 @@ fn an_input_is_never_written_over() {
         &["run", "a.recipe", "--save", "a.recipe", "--resume", "state"],
         &["state", "state", "--block", "state"],
         &["state", "block", "--block", "./block"],
+        &["timeline", "a.table", "-o", "a.table"],
+        &["timeline", "a.recipe", "-o", "./a.recipe", "--steps", "9"],
     ] {
         for force in [&[][..], &["--force"]] {
             let before = fs::read(d.join(line[1])).unwrap();

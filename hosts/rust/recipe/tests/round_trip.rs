@@ -6,7 +6,7 @@ use std::collections::BTreeSet;
 
 use common::{Generator, Random};
 use recipe::asm::assemble;
-use recipe::course::Course;
+use recipe::course::{Course, Most};
 use recipe::picture::{draw, Heading};
 use recipe::timeline::Timeline;
 use recipe::{listing, raw};
@@ -112,10 +112,13 @@ fn texts_of_any_content_are_survived() {
 fn pictures_of_generated_tables_can_be_drawn() {
     let mut generator = Generator::new(4);
     for _ in 0..300 {
-        let course = Course::of(&generator.table(), 2_000, &mut [0; 8 * 500]).unwrap();
+        let table = generator.table();
+        let most = Most { steps: 2_000, records: 500 };
+        let course = Course::of(&table, &State::start(&table).unwrap(), most).unwrap();
         let timeline = Timeline::of(&course);
         assert_eq!(timeline.records, course.seen.len());
-        let heading = Heading { name: "<&>", ending: course.ending, steps: course.steps, budget: 2_000 };
+        let (ending, steps) = (course.ending, course.steps);
+        let heading = Heading { name: "<&>", ending, steps, most: most.steps, resumed: None, procedures: &[] };
         let picture = draw(&timeline, &heading);
         assert!(picture.contains("&lt;&amp;&gt;"));
     }

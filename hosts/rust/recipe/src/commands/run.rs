@@ -6,7 +6,7 @@ use std::path::Path;
 use recipe_runner::{records, Ending, Ran, State, RECORD};
 
 use crate::args::{Given, Options};
-use crate::commands::{accepted, keep_input, log, refused_state, resumed, show};
+use crate::commands::{begun, keep_input, refused_state, show};
 use crate::content::Content;
 use crate::failure::{status_of, Failure};
 use crate::files::{self, Loaded, Source};
@@ -44,10 +44,13 @@ pub fn run(given: &Given) -> Result<u8, Failure> {
     Ok(status_of(ending))
 }
 
-/// The state that a run begins with: a fresh one, or a saved one. As in the library the table is looked at first.
-fn begun(loaded: &Loaded, resume: Option<&Path>) -> Result<State, Failure> {
-    let fresh = accepted(loaded)?;
-    resume.map_or(Ok(fresh), |path| resumed(loaded, path))
+/// A log of zeros.
+fn log(records: u32) -> Result<Vec<u8>, Failure> {
+    let length = records as usize * RECORD;
+    let mut log = Vec::new();
+    log.try_reserve_exact(length).map_err(|error| Failure::usage(format_args!("the log: {error}")))?;
+    log.resize(length, 0);
+    Ok(log)
 }
 
 /// A run under way.
