@@ -78,7 +78,8 @@ mod tests {
 
     /// A task that awaits a 0, one that awaits a number never issued, and one at a guard, while a fourth gives way.
     const TURNED: &str = "procedure main\n  spawn x held 0\n  spawn x busy 0\n  await nobody\n  set nobody 9\n  \
-                          await nobody\nprocedure held\n  guard pressure\nprocedure busy\n  suspend\n  suspend\n";
+                          await nobody\nprocedure held\n  guard pressure\nprocedure busy\n  suspend\n  suspend\n\
+                          variable pressure 63\n";
 
     #[test]
     fn a_guard_is_told_from_an_await() {

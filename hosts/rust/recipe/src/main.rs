@@ -12,7 +12,7 @@ fn main() -> ExitCode {
         Err(failure) => {
             if !failure.message.is_empty() {
                 // Nothing is left to do where standard error is closed.
-                let _ = writeln!(io::stderr(), "{}{}", failure.message, failure.excerpt);
+                let _ = writeln!(io::stderr(), "{}", failure.shown());
             }
             ExitCode::from(failure.status)
         }

@@ -4,10 +4,12 @@ use std::fmt;
 
 use recipe_runner::{Refusal, RECORD, TABLE};
 
-use crate::source::Position;
+use crate::source::{Faults, Position};
 
 /// The most records of a table.
 pub const RECORDS: usize = TABLE / RECORD;
+/// The most records that enclose one.
+pub const DEPTH: usize = 16;
 /// The name of the task's own parameter.
 pub const PARAMETER: u8 = 64;
 /// The first shared variable that is no valve.
@@ -92,6 +94,13 @@ impl fmt::Display for Record {
 pub struct Placed {
     pub record: Record,
     pub at: Position,
+}
+
+/// What a text without a fault gives.
+#[derive(Clone, Debug, Default)]
+pub struct Assembled {
+    pub records: Vec<Placed>,
+    pub warnings: Faults,
 }
 
 /// The bytes of a table.

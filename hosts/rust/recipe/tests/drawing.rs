@@ -96,6 +96,7 @@ procedure rest
     spawn b late 0
 procedure late
     await nobody
+variable nobody 63
 ";
 
 /// Task 2 divides by a count of sensors that is 0, while main and a task at a guard without a value wait.
@@ -110,6 +111,7 @@ procedure hold
 procedure share flow
     set valve1 1
     set valve0 flow / sensors
+variable sensors 63
 ";
 
 /// Task 3 waits for task 1, tasks 1 and 2 for each other, task 4 at a guard.
@@ -128,6 +130,7 @@ procedure watch
 procedure hold
     set valve2 2147483647
     guard 2 < pressure
+variable pressure 63
 ";
 
 /// Main is turned while it awaits 9; the number that it awaits is another one then, far behind in a wide picture.
