@@ -2,8 +2,8 @@
 
 use recipe_runner::{Refusal, State};
 
-use crate::source::{Fault, Position};
-use crate::table::{encode, Placed, LACKING};
+use crate::source::{Fault, Faults, Position};
+use crate::table::{encode, told, Assembled, Placed, Record, LACKING};
 use crate::{raw, readable};
 
 /// The most bytes of a text; the longest table needs far fewer.
@@ -32,22 +32,27 @@ fn end(text: &str) -> Position {
 }
 
 /// The table of a text in either notation.
-pub fn assemble(text: &str) -> Result<Vec<u8>, Fault> {
-    placed(text).map(|records| encode(&records))
+pub fn assemble(text: &str) -> Result<Vec<u8>, Faults> {
+    placed(text).map(|assembled| encode(&assembled.records))
 }
 
-/// The records of that table, each with where the text has it.
-pub fn placed(text: &str) -> Result<Vec<Placed>, Fault> {
-    let records = if raw::is_raw(text) { raw::parse(text)? } else { readable::parse(text)? };
-    match State::start(&encode(&records)) {
-        Ok(_) => Ok(records),
-        Err(refusal) => Err(located(refusal, &records)),
+/// The records of that table and the warnings. The library is asked where the text has no fault of its own.
+pub fn placed(text: &str) -> Result<Assembled, Faults> {
+    let assembled = if raw::is_raw(text) {
+        Assembled { records: raw::parse(text)?, ..Assembled::default() }
+    } else {
+        readable::parse(text)?
+    };
+    match State::start(&encode(&assembled.records)) {
+        Ok(_) => Ok(assembled),
+        Err(refusal) => Err(located(refusal, &assembled.records).into()),
     }
 }
 
 /// The library's refusal at the text of the record at fault.
 fn located(refusal: Refusal, records: &[Placed]) -> Fault {
-    said_of(refusal.place, records, &format!("refused {}", refusal.number), refusal.words())
+    let rows: Vec<Record> = records.iter().map(|placed| placed.record).collect();
+    said_of(refusal.place, records, &format!("refused {}", refusal.number), &told(&rows, refusal))
 }
 
 /// The ending "novalue" at the text of the statement.

@@ -95,8 +95,7 @@ fn check(given: &Given) -> Result<u8, Failure> {
         // What is wrong with a recipe is what was asked for, and no message beside it.
         let line = verdict.unwrap_or_else(|failure| {
             status = status.max(failure.status);
-            let place = if inputs.len() == 1 { &failure.excerpt } else { "" };
-            failure.message + place
+            if inputs.len() == 1 { failure.shown() } else { &failure.message }.to_string()
         });
         print(&format!("{line}\n"))?;
     }

@@ -5,7 +5,7 @@ use std::io;
 
 use recipe_runner::{Ending, Refusal};
 
-use crate::source::Fault;
+use crate::source::Faults;
 use crate::table::describe;
 
 /// The input is refused or at fault.
@@ -37,20 +37,29 @@ pub fn status_of(ending: Ending) -> u8 {
 pub struct Failure {
     pub status: u8,
     pub message: String,
-    /// The place in the text, in lines to be shown below the message; empty if there is none.
-    pub excerpt: String,
+    /// The message with the places in the text shown; empty if there are none.
+    shown: String,
     /// The number and place of a refusal, which commands that print a run's ending print as well.
     pub refusal: Option<Refusal>,
 }
 
 impl Failure {
     pub fn new(status: u8, message: impl Into<String>) -> Failure {
-        Failure { status, message: message.into(), excerpt: String::new(), refusal: None }
+        Failure { status, message: message.into(), shown: String::new(), refusal: None }
     }
 
-    /// A fault of a text.
-    pub fn fault(name: &str, text: &str, fault: &Fault) -> Failure {
-        Failure { excerpt: fault.excerpt(text), ..Failure::new(FAULT, fault.head(name)) }
+    /// The faults of a text.
+    pub fn faults(name: &str, text: &str, faults: &Faults) -> Failure {
+        Failure { shown: faults.show(name, text), ..Failure::new(FAULT, faults.heads(name)) }
+    }
+
+    /// The message, with the places in the text where there are some.
+    pub fn shown(&self) -> &str {
+        if self.shown.is_empty() {
+            &self.message
+        } else {
+            &self.shown
+        }
     }
 
     /// A refusal, and what is wrong in a sentence.

@@ -10,7 +10,8 @@ use recipe_runner::TABLE;
 use crate::asm;
 use crate::content::Content;
 use crate::failure::{Failure, USAGE};
-use crate::table::{encode, Placed};
+use crate::source::Faults;
+use crate::table::{encode, Assembled, Placed};
 
 /// How many names of temporary files are tried.
 const ATTEMPTS: u32 = 16;
@@ -60,15 +61,23 @@ fn directory(path: &Path) -> Failure {
     Failure::usage(format_args!("{}: this is a directory, and a file is due", path.display()))
 }
 
-/// Reads a text and assembles it.
+/// Reads a text and assembles it; its warnings are told.
 pub fn assemble(file: Option<&Path>) -> Result<Loaded, Failure> {
     let bytes = read(file, asm::TEXT)?;
-    let text = asm::text(&bytes);
-    let shown_text = text.as_ref().copied().unwrap_or_default();
-    let records = text.clone().and_then(asm::placed);
-    let records = records.map_err(|fault| Failure::fault(&shown(file), shown_text, &fault))?;
-    let source = Source { text: shown_text.to_string(), records };
-    Ok(Loaded { name: shown(file), table: encode(&source.records), source: Some(source) })
+    let name = shown(file);
+    let text = asm::text(&bytes).map_err(|fault| Failure::faults(&name, "", &fault.into()))?;
+    let assembled = asm::placed(text).map_err(|faults| Failure::faults(&name, text, &faults))?;
+    let Assembled { records, warnings } = assembled;
+    warn(&name, text, &warnings);
+    let source = Source { text: text.to_string(), records };
+    Ok(Loaded { name, table: encode(&source.records), source: Some(source) })
+}
+
+fn warn(name: &str, text: &str, warnings: &Faults) {
+    if !warnings.is_empty() {
+        // The table is made all the same.
+        tell(&warnings.show(name, text));
+    }
 }
 
 /// A table, or text whose name ends in `.recipe`, assembled.

@@ -3,8 +3,49 @@
 use crate::source::{Fault, Position};
 use crate::words::quoted;
 
-/// The signs of the notation; of two that begin alike the longer stands first.
-const SIGNS: [&str; 8] = ["==", "+", "-", "*", "/", "<", "(", ")"];
+/// The signs of the notation.
+const SIGNS: [&str; 12] = ["==", "<=", ">=", "!=", "+", "-", "*", "/", "<", ">", "(", ")"];
+
+/// Signs of other notations, with the form to write instead.
+#[rustfmt::skip]
+const REFUSED: [(&str, &str); 33] = [
+    ("=", "a single \"=\" has no meaning: equal is \"==\", and a set is \"set NAME EXPRESSION\""),
+    (":=", "there is no \":=\": write \"set NAME EXPRESSION\""),
+    ("+=", "there is no \"+=\": write \"set x x + y\""),
+    ("-=", "there is no \"-=\": write \"set x x - y\""),
+    ("*=", "there is no \"*=\": write \"set x x * y\""),
+    ("/=", "there is no \"/=\": write \"set x x / y\", or \"a != b\" for unequal"),
+    ("%=", "there is no \"%=\": write \"set x x - x / y * y\""),
+    ("++", "there is no \"++\": write \"set x x + 1\""),
+    ("%", "there is no \"%\": write the remainder of a / b as \"a - a / b * b\""),
+    ("**", "there is no \"**\": write a power as a product, \"a * a\""),
+    ("&&", "there is no \"&&\": write \"a and b\""),
+    ("||", "there is no \"||\": write \"a or b\""),
+    ("!", "there is no \"!\": write \"not\""),
+    ("<>", "there is no \"<>\": write \"a != b\""),
+    ("=<", "there is no \"=<\": write \"a <= b\""),
+    ("=>", "there is no \"=>\": write \"a >= b\""),
+    ("===", "there is no \"===\": write \"a == b\""),
+    ("!==", "there is no \"!==\": write \"a != b\""),
+    ("&", "there is no \"&\": write \"a and b\"; there are no operators on bits"),
+    ("|", "there is no \"|\": write \"a or b\"; there are no operators on bits"),
+    ("^", "there is no \"^\": write a power as a product, \"a * a\"; there are no operators on bits"),
+    ("~", "there is no \"~\": write \"not\"; there are no operators on bits"),
+    ("<<", "there is no \"<<\": write a product, \"a * 2\"; there are no operators on bits"),
+    (">>", "there is no \">>\": write a quotient, \"a / 2\"; there are no operators on bits"),
+    (";", "there is no \";\": a statement ends with its line, and the next one has a line of its own"),
+    (":", "no \":\" is needed: the indentation tells what a body is"),
+    ("{", "there is no \"{\": the indentation tells what a body is"),
+    ("}", "there is no \"}\": the indentation tells what a body is"),
+    ("//", "there is no \"//\": a quotient is \"a / b\", and a comment begins with \"#\""),
+    ("/*", "there is no \"/*\": a comment begins with \"#\""),
+    ("?", "there is no \"?\": set a variable in an if and, with not, in a second one"),
+    (".", "there is no \".\": values are whole numbers"),
+    (",", "there is no \",\": the parts of a statement are separated by spaces"),
+];
+
+/// Those that give the word before them a new value.
+const ASSIGNMENTS: [&str; 8] = ["=", ":=", "+=", "-=", "*=", "/=", "%=", "++"];
 
 #[derive(Clone, Copy, Debug, PartialEq, Eq)]
 pub enum Token<'a> {
@@ -12,12 +53,14 @@ pub enum Token<'a> {
     /// Begins with a digit; whether it is a number in range is told where it is used.
     Number(&'a str),
     Sign(&'a str),
+    /// A sign or character without a meaning, told where the line cannot go on with it.
+    Stray(&'a str),
 }
 
 impl<'a> Token<'a> {
     pub fn text(self) -> &'a str {
         match self {
-            Token::Word(text) | Token::Number(text) | Token::Sign(text) => text,
+            Token::Word(text) | Token::Number(text) | Token::Sign(text) | Token::Stray(text) => text,
         }
     }
 }
@@ -33,55 +76,65 @@ pub struct Lexeme<'a> {
 pub struct Line<'a> {
     /// The spaces before the first token.
     pub indent: usize,
+    /// The first tab before the first token.
+    pub tab: Option<Position>,
     pub lexemes: Vec<Lexeme<'a>>,
     /// The position behind the last token.
     pub end: Position,
 }
 
-/// The lines of a text.
-pub fn lines(text: &str) -> Result<Vec<Line<'_>>, Fault> {
-    let mut lines = Vec::new();
-    for (index, row) in text.lines().enumerate() {
-        let code = row.split('#').next().unwrap_or_default().trim_end();
-        if !code.is_empty() {
-            lines.push(line(index + 1, code)?);
-        }
+impl<'a> Line<'a> {
+    pub fn words(&self) -> impl Iterator<Item = &'a str> + '_ {
+        self.lexemes.iter().filter_map(|lexeme| match lexeme.token {
+            Token::Word(word) => Some(word),
+            _ => None,
+        })
     }
-    Ok(lines)
 }
 
-fn line(number: usize, code: &str) -> Result<Line<'_>, Fault> {
-    let indent = code.chars().take_while(|c| *c == ' ').count();
+/// The lines of a text.
+pub fn lines(text: &str) -> Vec<Line<'_>> {
+    let codes = text.lines().map(|row| row.split('#').next().unwrap_or_default().trim_end());
+    (1..).zip(codes).filter(|(_, code)| !code.is_empty()).map(|(number, code)| line(number, code)).collect()
+}
+
+fn line(number: usize, code: &str) -> Line<'_> {
+    let blank = |c: char| c == ' ' || c == '\t';
     let at = |column| Position { line: number, column };
+    let before = code.chars().take_while(|c| blank(*c)).collect::<String>();
+    let tab = before.find('\t').map(|tab| at(tab + 1));
     let mut lexemes = Vec::new();
     let mut rest = code;
     let mut column = 1;
     while let Some(first) = rest.chars().next() {
-        let width = if first == ' ' || (first == '\t' && !lexemes.is_empty()) {
-            1
-        } else {
-            let token = token(rest).ok_or_else(|| stray(at(column), rest))?;
+        let mut width = first.len_utf8();
+        if !blank(first) {
+            let token = token(first, rest);
             lexemes.push(Lexeme { token, at: at(column) });
-            token.text().len()
-        };
-        let (done, left) = rest.split_at(width);
+            width = token.text().len();
+        }
+        let (done, left) = rest.split_at_checked(width).unwrap_or((rest, ""));
         column += done.chars().count();
         rest = left;
     }
-    Ok(Line { indent, lexemes, end: at(column) })
+    Line { indent: before.chars().take_while(|c| *c == ' ').count(), tab, lexemes, end: at(column) }
 }
 
-fn token(rest: &str) -> Option<Token<'_>> {
-    let first = rest.chars().next()?;
-    let length = rest.find(|c| !is_part(c)).unwrap_or(rest.len());
-    let word = rest.get(..length)?;
-    if first.is_ascii_digit() {
-        Some(Token::Number(word))
-    } else if is_part(first) {
-        Some(Token::Word(word))
+fn token(first: char, rest: &str) -> Token<'_> {
+    let cut = |length: usize| rest.get(..length).unwrap_or(rest);
+    if is_part(first) {
+        let word = cut(rest.find(|c| !is_part(c)).unwrap_or(rest.len()));
+        return if first.is_ascii_digit() { Token::Number(word) } else { Token::Word(word) };
+    }
+    let longest = |signs: &mut dyn Iterator<Item = &&str>| {
+        signs.filter(|sign| rest.starts_with(**sign)).map(|sign| sign.len()).max().unwrap_or_default()
+    };
+    let read = longest(&mut SIGNS.iter());
+    let refused = longest(&mut REFUSED.iter().map(|(sign, _)| sign));
+    if read > refused {
+        Token::Sign(cut(read))
     } else {
-        let sign = SIGNS.iter().find(|sign| rest.starts_with(**sign))?;
-        rest.get(..sign.len()).map(Token::Sign)
+        Token::Stray(cut(refused.max(first.len_utf8())))
     }
 }
 
@@ -89,19 +142,16 @@ fn is_part(c: char) -> bool {
     c.is_alphabetic() || c.is_ascii_digit() || c == '_'
 }
 
-/// The fault of a character that begins no token.
-fn stray(at: Position, rest: &str) -> Fault {
-    let first = rest.chars().next().unwrap_or(' ');
-    let sentence = match first {
-        '\t' => "bad indentation: it must be of spaces, and this is a tab".to_string(),
-        '=' => "a single \"=\" has no meaning: equal is \"==\", and a set is \"set NAME EXPRESSION\"".to_string(),
-        '>' => "there is no \">\": write \"a > b\" as \"b < a\"".to_string(),
-        ':' => "no \":\" is needed: the indentation tells what a body is".to_string(),
-        '!' => "there is no \"!\": write \"not\"".to_string(),
-        c if c.is_control() => format!("the character {} cannot stand in a recipe", c.escape_unicode()),
-        c => format!("the character \"{c}\" has no meaning here"),
-    };
-    Fault::new(at, sentence)
+/// What is wrong with a sign or character without a meaning.
+fn stray(text: &str) -> String {
+    if let Some((_, sentence)) = REFUSED.iter().find(|(sign, _)| *sign == text) {
+        return sentence.to_string();
+    }
+    let hidden = text.chars().find(|c| c.is_control() || c.is_whitespace());
+    match hidden {
+        Some(c) => format!("the character {} cannot stand in a recipe", c.escape_unicode()),
+        None => format!("the character \"{text}\" has no meaning here"),
+    }
 }
 
 /// Walks over the tokens of a line.
@@ -162,6 +212,7 @@ impl<'a, 'l> Cursor<'a, 'l> {
     /// The fault that something is due at the next token.
     pub fn due(&self, what: &str) -> Fault {
         let sentence = match self.peek() {
+            Some(Lexeme { token: Token::Stray(text), .. }) => stray(text),
             Some(lexeme) => format!("{what} is due here, not {}", quoted(lexeme.token.text())),
             None => format!("{what} is due here, and the line ends"),
         };
@@ -171,10 +222,24 @@ impl<'a, 'l> Cursor<'a, 'l> {
     /// Holds the line to its end.
     pub fn finish(&self) -> Result<(), Fault> {
         match self.peek() {
+            Some(Lexeme { token: Token::Stray(text), at }) => Err(Fault::new(at, stray(text))),
             Some(Lexeme { token, at }) => {
                 Err(Fault::new(at, format!("the line should end before {}", quoted(token.text()))))
             }
             None => Ok(()),
+        }
+    }
+
+    /// The fault of a sign that in other notations gives the word before it a new value.
+    pub fn assignment(&self) -> Option<Fault> {
+        match self.lexemes {
+            [Lexeme { token: Token::Stray(text), at }, ..] if ASSIGNMENTS.contains(text) => {
+                Some(Fault::new(*at, stray(text)))
+            }
+            [Lexeme { token: Token::Sign("-"), at }, Lexeme { token: Token::Sign("-"), .. }] => {
+                Some(Fault::new(*at, "there is no \"--\": write \"set x x - 1\""))
+            }
+            _ => None,
         }
     }
 }
@@ -185,23 +250,37 @@ mod tests {
 
     #[test]
     fn a_line_is_cut_into_tokens() {
-        let lines = lines("\n  set größe -5==(x2)\t# a comment\r\n#only\n").unwrap();
+        let lines = lines("\n  set größe -5==(x2)\t# a comment\r\n#only\n");
         assert_eq!(lines.len(), 1);
-        assert_eq!(lines[0].indent, 2);
+        assert_eq!((lines[0].indent, lines[0].tab), (2, None));
         let texts: Vec<_> = lines[0].lexemes.iter().map(|l| (l.token.text(), l.at.column)).collect();
         let due = [("set", 3), ("größe", 7), ("-", 13), ("5", 14), ("==", 15), ("(", 17), ("x2", 18), (")", 20)];
         assert_eq!(texts, due);
         assert_eq!(lines[0].end, Position { line: 2, column: 21 });
+        assert_eq!(lines[0].words().collect::<Vec<_>>(), ["set", "größe", "x2"]);
+    }
+
+    #[test]
+    fn of_signs_that_begin_alike_the_longest_is_taken() {
+        let texts = |text| lines(text)[0].lexemes.iter().map(|l| l.token).collect::<Vec<_>>();
+        let (sign, stray) = (Token::Sign, Token::Stray);
+        assert_eq!(texts("<=<>=!=!"), [sign("<="), stray("<>"), stray("="), sign("!="), stray("!")]);
+        assert_eq!(texts("***=-=--"), [stray("**"), stray("*="), stray("-="), sign("-"), sign("-")]);
+        assert_eq!(texts("€\u{a0}a"), [stray("€"), stray("\u{a0}"), Token::Word("a")]);
+        assert_eq!(texts("0x1F"), [Token::Number("0x1F")]);
     }
 
     #[test]
     fn stray_characters_are_told() {
-        let fault = |text| lines(text).unwrap_err();
-        assert_eq!(fault("a\n \tset").at, Position { line: 2, column: 2 });
-        assert!(fault("\tset").sentence.contains("tab"));
-        assert!(fault("a = b").sentence.contains("=="));
-        assert!(fault("é €").sentence.contains('€'));
-        assert_eq!(fault("é €").at.column, 3);
-        assert!(fault("a \u{1}").sentence.contains("u{1}"));
+        let fault = |text| {
+            let lines = lines(text);
+            Cursor::new(&lines[0]).finish().unwrap_err()
+        };
+        assert!(fault("= b").sentence.contains("=="));
+        assert!(fault("€").sentence.contains('€'));
+        assert!(fault("\u{1}").sentence.contains("u{1}"));
+        assert!(fault("\u{a0}a").sentence.contains("u{a0}"));
+        assert!(REFUSED.iter().all(|(sign, _)| fault(sign).sentence.contains(sign)));
+        assert_eq!(lines("a\n \tset")[1].tab, Some(Position { line: 2, column: 2 }));
     }
 }

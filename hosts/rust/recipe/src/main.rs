@@ -12,7 +12,7 @@ fn main() -> ExitCode {
         Ok(status) => ExitCode::from(status),
         Err(failure) => {
             if !failure.message.is_empty() {
-                files::tell(&format!("{}{}", failure.message, failure.excerpt));
+                files::tell(failure.shown());
             }
             ExitCode::from(failure.status)
         }

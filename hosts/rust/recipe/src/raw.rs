@@ -4,33 +4,61 @@ use std::fmt::Write;
 
 use recipe_runner::{Refusal, State, RECORD, TABLE};
 
-use crate::source::{Fault, Position};
+use crate::source::{Fault, Faults, Position};
 use crate::table::{decode, depths, Placed, Record, RECORDS};
 use crate::words::quoted;
 
 /// Records enclosed by more than this are not indented further; an accepted table has none.
 const DEEPEST: usize = 32;
 
+/// An item's first number is looked for in so many digits.
+const LONGEST: usize = 20;
+
 /// Whether a text is in this notation: its first item begins with a digit, as no line of the other one does.
 pub fn is_raw(text: &str) -> bool {
     Scanner::new(text).skip().is_some_and(|first| first.is_ascii_digit())
 }
 
-/// The records of a text.
-pub fn parse(text: &str) -> Result<Vec<Placed>, Fault> {
+/// The records of a text. An item at fault is told and the next one read.
+pub fn parse(text: &str) -> Result<Vec<Placed>, Faults> {
     let mut scanner = Scanner::new(text);
+    let mut faults = Faults::new();
     let mut records = Vec::new();
+    let mut items = 0;
     while scanner.skip().is_some() {
         let at = scanner.at;
-        if records.len() == RECORDS {
-            return Err(Fault::new(at, format!("the table is longer than {RECORDS} records from here on")));
+        if items == RECORDS {
+            faults.push(Fault::new(at, format!("the table is longer than {RECORDS} records from here on")));
+            break;
         }
-        records.push(Placed { record: item(&mut scanner)?, at });
-        if scanner.peek().is_some_and(|next| !next.is_whitespace() && next != '#') {
-            return Err(Fault::new(scanner.at, "white space is due between two items"));
+        items += 1;
+        match separate(&mut scanner) {
+            Ok(record) => records.push(Placed { record, at }),
+            Err(fault) => {
+                faults.push(fault);
+                scanner.recover();
+            }
         }
     }
-    Ok(records)
+    if faults.is_empty() {
+        Ok(records)
+    } else {
+        Err(faults)
+    }
+}
+
+/// An item with white space behind it.
+fn separate(scanner: &mut Scanner) -> Result<Record, Fault> {
+    let record = item(scanner)?;
+    match scanner.peek() {
+        Some(next) if !is_gap(next) => Err(Fault::new(scanner.at, "white space is due between two items")),
+        _ => Ok(record),
+    }
+}
+
+/// Whether a character ends an item.
+fn is_gap(next: char) -> bool {
+    next.is_whitespace() || next == '#'
 }
 
 fn item(scanner: &mut Scanner) -> Result<Record, Fault> {
@@ -82,6 +110,27 @@ impl<'a> Scanner<'a> {
             self.take();
         }
         None
+    }
+
+    /// Goes on behind a fault: to where the next item begins, or behind a ")" and what is joined to it.
+    fn recover(&mut self) {
+        let mut closed = false;
+        while let Some(next) = self.peek() {
+            if self.begins_item() || (closed && is_gap(next)) {
+                return;
+            }
+            closed |= next == ')';
+            if is_gap(next) {
+                self.skip();
+            } else {
+                self.take();
+            }
+        }
+    }
+
+    fn begins_item(&self) -> bool {
+        let digits = self.rest.bytes().take(LONGEST).take_while(u8::is_ascii_digit).count();
+        digits > 0 && self.rest.as_bytes().get(digits) == Some(&b'(')
     }
 
     fn sign(&mut self, sign: char, sentence: &str) -> Result<(), Fault> {
@@ -139,8 +188,11 @@ mod tests {
     use super::*;
 
     fn fault(text: &str) -> (usize, usize, String) {
-        let Fault { at, sentence } = parse(text).unwrap_err();
-        (at.line, at.column, sentence)
+        let faults = parse(text).unwrap_err();
+        let [Fault { at, sentence }] = faults.told() else {
+            panic!("{faults:?}");
+        };
+        (at.line, at.column, sentence.clone())
     }
 
     #[test]
@@ -166,6 +218,19 @@ mod tests {
         assert_eq!(fault("1(0,0,0) x").1, 10);
         assert_eq!(fault("1(0,,0)").1, 5);
         assert_eq!(fault(&"2(0,0,0)\n".repeat(4097)).0, 4097);
+    }
+
+    #[test]
+    fn every_item_at_fault_is_told() {
+        let places = |text: &str| -> Vec<(usize, usize)> {
+            parse(text).unwrap_err().told().iter().map(|fault| (fault.at.line, fault.at.column)).collect()
+        };
+        assert_eq!(places("1(0,-1,0) 2(0,0,0) 300(0,0,0)\n3(0,x,0)"), [(1, 5), (1, 20), (2, 5)]);
+        assert_eq!(places("1(0,0,0)2(0,0,x)"), [(1, 9), (1, 15)]);
+        assert_eq!(places("1(0,0,0)x y 2(0,0,0) 9"), [(1, 9), (1, 23)]);
+        assert_eq!(places("1(0,0 # 5)\n 2(0,0,0)\n9(0,0,1x)x 1(0,,0)"), [(2, 2), (3, 7), (3, 16)]);
+        assert_eq!(places("1(x # (\n,0,0)\n2()"), [(1, 3), (3, 3)]);
+        assert_eq!(places(&format!("1(0,0,0) x {}", "1".repeat(1 << 20))), [(1, 10)]);
     }
 
     #[test]

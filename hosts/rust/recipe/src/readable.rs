@@ -1,191 +1,220 @@
 //! The readable notation: procedures, statements and bodies by indentation.
+//!
+//! A line at fault is told and the next one read, in such a way that it has no fault on the first one's account.
 
-use std::cmp::Ordering;
+use std::mem;
 
+use crate::bodies::Bodies;
 use crate::expression;
 use crate::lexer::{lines, Cursor, Line};
-use crate::names::{Names, DEFAULT_PARAMETER};
-use crate::source::{Fault, Position};
-use crate::table::{kind, Placed, Record, FIRST_SHARED, RECORDS};
+use crate::names::{Names, ANY_PARAMETER, DEFAULT_PARAMETER};
+use crate::nearest::question;
+use crate::outline::{keywords, outline, STATEMENTS};
+use crate::source::{Fault, Faults, Position};
+use crate::table::{kind, Assembled, Placed, Record, DEPTH, FIRST_SHARED, RECORDS};
+use crate::tree::Tree;
 use crate::words::quoted;
 
-/// The records of a text.
-pub fn parse(text: &str) -> Result<Vec<Placed>, Fault> {
-    let lines = lines(text)?;
-    let mut assembler = Assembler { names: declared(&lines)?, records: Vec::new(), open: Vec::new() };
-    for line in &lines {
-        assembler.line(line)?;
+/// The records of a text and its warnings.
+pub fn parse(text: &str) -> Result<Assembled, Faults> {
+    let lines = lines(text);
+    let mut faults = Faults::new();
+    let (names, words) = outline(&lines, &mut faults);
+    let mut assembler = Assembler { names, faults, ..Assembler::default() };
+    for (line, keyword) in lines.iter().zip(words) {
+        assembler.line(line, keyword);
     }
-    assembler.close(0);
-    if assembler.records.is_empty() {
-        return Err(Fault::new(Position::START, "the recipe has no procedure"));
-    }
-    Ok(assembler.records)
+    assembler.finish()
 }
 
-/// The names that headers and declarations give; they hold for the whole text.
-fn declared<'a>(lines: &[Line<'a>]) -> Result<Names<'a>, Fault> {
-    let mut names = Names::new();
-    for line in lines.iter().filter(|line| line.indent == 0) {
-        let mut cursor = Cursor::new(line);
-        if cursor.accept("procedure").is_some() {
-            let (name, at) = cursor.word("the procedure's name")?;
-            names.add_procedure(name, at)?;
-            if cursor.peek().is_some() {
-                let (parameter, at) = cursor.word("the parameter's name")?;
-                names.add_parameter(parameter, at)?;
-            }
-            cursor.finish()?;
-        } else if cursor.accept("variable").is_some() {
-            let (name, at) = cursor.word("the variable's name")?;
-            let (digits, digits_at) = cursor.number("the variable's number")?;
-            let number = expression::number(digits, digits_at)?.and_then(|n| u8::try_from(n).ok()).filter(|n| *n < 64);
-            let number = number.ok_or_else(|| Fault::new(digits_at, "number out of range: variables are 0 to 63"))?;
-            names.add_variable(name, number, at)?;
-            cursor.finish()?;
-        }
-    }
-    Ok(names)
-}
-
-/// A procedure, if or while whose body may still grow.
-#[derive(Debug)]
-struct Block {
-    header: usize,
-    indent: usize,
-    /// The indentation of the body, once its first line is known.
-    body: Option<usize>,
-}
-
+#[derive(Default)]
 struct Assembler<'a> {
     names: Names<'a>,
+    faults: Faults,
     records: Vec<Placed>,
-    open: Vec<Block>,
+    bodies: Bodies,
+    /// Whether it was told that the records are too many.
+    full: bool,
 }
 
 impl<'a> Assembler<'a> {
-    fn line(&mut self, line: &Line<'a>) -> Result<(), Fault> {
+    fn finish(mut self) -> Result<Assembled, Faults> {
+        self.bodies.end(0, &mut self.records);
+        self.names.tell_unknown(&mut self.faults);
+        if self.faults.is_empty() && self.records.is_empty() {
+            self.faults.push(Fault::new(Position::START, "the recipe has no procedure"));
+        }
+        if self.faults.is_empty() {
+            Ok(Assembled { records: self.records, warnings: self.names.unused() })
+        } else {
+            Err(self.faults)
+        }
+    }
+
+    /// Reads a line; what is wrong with it is told.
+    fn line(&mut self, line: &Line<'a>, keyword: Option<&str>) {
         let mut cursor = Cursor::new(line);
-        let (word, at) = cursor.word("a statement, \"procedure\" or \"variable\"")?;
-        self.close(line.indent);
-        match (word, line.indent) {
-            ("variable", 0) => return Ok(()),
-            ("procedure", 0) => return self.procedure(&mut cursor, at),
-            ("variable" | "procedure", _) => {
-                return Err(Fault::new(at, format!("bad indentation: a {word} begins without any")))
-            }
-            _ => self.fit(line.indent, at)?,
+        let (at, header) = (cursor.at(), self.records.len());
+        let first = cursor.word("a statement, \"procedure\" or \"variable\"");
+        let stands = self.stand(line, keyword, at);
+        let other = first.err().or_else(|| misspelt(line, keyword));
+        if keyword.is_none() && line.indent == 0 {
+            // It may have been a header.
+            self.names.enter(ANY_PARAMETER);
         }
-        let header = self.records.len();
-        self.statement(word, at, &mut cursor)?;
-        cursor.finish()?;
-        if word == "if" || word == "while" {
-            self.open.push(Block { header, indent: line.indent, body: None });
+        let read = keyword.map_or(Ok(()), |keyword| self.statement(keyword, at, &mut cursor));
+        let faulty = other.is_some() || read.is_err();
+        match other {
+            // What else is wrong with such a line is told when it is mended.
+            Some(fault) => self.faults.push(fault),
+            None => [stands, read].into_iter().filter_map(Result::err).for_each(|fault| self.faults.push(fault)),
         }
-        Ok(())
-    }
-
-    /// Ends the bodies that a line of this indentation does not belong to.
-    fn close(&mut self, indent: usize) {
-        while let Some(block) = self.open.pop_if(|block| indent <= block.indent) {
-            let enclosed = self.records.len().saturating_sub(block.header + 1);
-            if let Some(header) = self.records.get_mut(block.header) {
-                // The table's length keeps it within the field.
-                header.record.span = u16::try_from(enclosed).unwrap_or(u16::MAX);
-            }
+        let bears = matches!(keyword, Some("if" | "while")) || (faulty && keyword != Some("procedure"));
+        if bears && line.tab.is_none() {
+            self.bodies.begin(header, line.indent);
         }
     }
 
-    /// Holds a statement's indentation to the body that it stands in.
-    fn fit(&mut self, indent: usize, at: Position) -> Result<(), Fault> {
-        let Some(block) = self.open.last_mut() else {
-            return Err(Fault::new(at, "bad indentation: a statement must be indented under a procedure"));
-        };
-        let body = *block.body.get_or_insert(indent);
-        match indent.cmp(&body) {
-            Ordering::Equal => Ok(()),
-            Ordering::Less => {
-                Err(Fault::new(at, format!("bad indentation: the lines of this body have {body} spaces")))
-            }
-            Ordering::Greater => {
-                let sentence = format!(
-                    "bad indentation: the lines of this body have {body} spaces, and the statement before has no body"
-                );
-                Err(Fault::new(at, sentence))
-            }
+    /// Ends the bodies before a line and holds its indentation to the one that it stands in.
+    fn stand(&mut self, line: &Line, keyword: Option<&str>, at: Position) -> Result<(), Fault> {
+        let may_be_header = keyword.is_none_or(|word| !STATEMENTS.contains(&word)) && line.indent == 0;
+        if keyword == Some("procedure") || (may_be_header && line.tab.is_none()) {
+            self.bodies.end(0, &mut self.records);
         }
-    }
-
-    fn procedure(&mut self, cursor: &mut Cursor<'a, '_>, at: Position) -> Result<(), Fault> {
-        cursor.word("the procedure's name")?;
-        self.names.enter(cursor.word("").map_or(DEFAULT_PARAMETER, |(parameter, _)| parameter));
-        self.open.push(Block { header: self.records.len(), indent: 0, body: None });
-        self.push(Record::new(kind::PROCEDURE, 0, 0, 0), at, Vec::new())
+        if let Some(tab) = line.tab {
+            return Err(self.bodies.tab(tab));
+        }
+        match keyword {
+            Some("procedure" | "variable") if line.indent == 0 => Ok(()),
+            Some(word @ ("procedure" | "variable")) => {
+                Err(Fault::new(at, format!("bad indentation: a {word} begins without any")))
+            }
+            _ => self.bodies.fit(line.indent, at, &mut self.records),
+        }
     }
 
     fn statement(&mut self, word: &str, at: Position, cursor: &mut Cursor<'a, '_>) -> Result<(), Fault> {
         match word {
-            "skip" => self.push(Record::new(kind::SKIP, 0, 0, 0), at, Vec::new()),
-            "suspend" => self.push(Record::new(kind::SUSPEND, 0, 0, 0), at, Vec::new()),
+            "procedure" => self.procedure(cursor, at),
+            "skip" => self.plain(Record::new(kind::SKIP, 0, 0, 0), at, cursor),
+            "suspend" => self.plain(Record::new(kind::SUSPEND, 0, 0, 0), at, cursor),
             "await" => {
-                let (name, _) = self.variable(cursor)?;
-                self.push(Record::new(kind::AWAIT, name, 0, 0), at, Vec::new())
+                let (word, word_at) = cursor.word(VARIABLE)?;
+                let name = self.names.read(word, word_at)?;
+                self.plain(Record::new(kind::AWAIT, name, 0, 0), at, cursor)
             }
             "set" => {
-                let (name, _) = self.variable(cursor)?;
+                let (word, word_at) = cursor.word(VARIABLE)?;
+                let name = self.names.variable(word, word_at)?;
                 self.enclosing(Record::new(kind::SET, name, 0, 0), at, cursor)
             }
             "spawn" => self.spawn(at, cursor),
             "if" => self.enclosing(Record::new(kind::IF, 0, 0, 0), at, cursor),
             "while" => self.enclosing(Record::new(kind::WHILE, 0, 0, 0), at, cursor),
             "guard" => self.enclosing(Record::new(kind::GUARD, 0, 0, 0), at, cursor),
-            "else" => Err(Fault::new(at, "there is no \"else\": write a second \"if\" with \"not\"")),
-            _ => {
-                let known = "set, if, while, spawn, suspend, await, guard or skip";
-                Err(Fault::new(at, format!("{} is no statement: {known} is due here", quoted(word))))
-            }
+            // A declaration is read with the outline.
+            _ => Ok(()),
         }
     }
 
+    /// A header; what is wrong with it is told with the outline.
+    fn procedure(&mut self, cursor: &mut Cursor<'a, '_>, at: Position) -> Result<(), Fault> {
+        let parameter = cursor.word("").and_then(|_| cursor.word(""));
+        self.names.enter(match (parameter, cursor.finish()) {
+            (Ok((parameter, _)), Ok(())) => parameter,
+            (_, Ok(())) => DEFAULT_PARAMETER,
+            (_, Err(_)) => ANY_PARAMETER,
+        });
+        let header = self.records.len();
+        let pushed = self.push(Record::new(kind::PROCEDURE, 0, 0, 0), at, None);
+        self.bodies.begin_procedure(header);
+        pushed
+    }
+
     fn spawn(&mut self, at: Position, cursor: &mut Cursor<'a, '_>) -> Result<(), Fault> {
-        let (name, name_at) = self.variable(cursor)?;
+        let (word, word_at) = cursor.word(VARIABLE)?;
+        let name = self.names.variable(word, word_at)?;
         if name < FIRST_SHARED {
             let sentence = "a spawn's number cannot go into a valve (variables 0 to 7)";
-            return Err(Fault::new(name_at, sentence));
+            return Err(Fault::new(word_at, sentence));
         }
         let (procedure, procedure_at) = cursor.word("the name of a procedure")?;
         let number = self.names.procedure(procedure, procedure_at)?;
         self.enclosing(Record::new(kind::SPAWN, name, 0, number), at, cursor)
     }
 
-    fn variable(&mut self, cursor: &mut Cursor<'a, '_>) -> Result<(u8, Position), Fault> {
-        let (word, at) = cursor.word("the name of a variable")?;
-        Ok((self.names.variable(word, at)?, at))
+    /// A statement that the line ends with.
+    fn plain(&mut self, record: Record, at: Position, cursor: &Cursor) -> Result<(), Fault> {
+        cursor.finish()?;
+        self.push(record, at, None)
     }
 
     /// A statement that encloses the expression at the cursor.
     fn enclosing(&mut self, record: Record, at: Position, cursor: &mut Cursor<'a, '_>) -> Result<(), Fault> {
+        let from = cursor.at();
         let expression = expression::read(cursor, &mut self.names)?;
-        let span = u16::try_from(expression.len()).unwrap_or(u16::MAX);
-        self.push(Record { span, ..record }, at, expression)
+        cursor.finish()?;
+        let Some(height) = DEPTH.checked_sub(self.bodies.depth() + 1) else {
+            return self.bodies.too_deep(from);
+        };
+        let expression = expression.within(height)?;
+        let span = u16::try_from(expression.size()).unwrap_or(u16::MAX);
+        self.push(Record { span, ..record }, at, Some(expression))
     }
 
-    fn push(&mut self, record: Record, at: Position, expression: Vec<Placed>) -> Result<(), Fault> {
-        if self.records.len() + 1 + expression.len() > RECORDS {
-            return Err(Fault::new(at, format!("the recipe is longer than {RECORDS} records from here on")));
+    fn push(&mut self, record: Record, at: Position, expression: Option<Tree>) -> Result<(), Fault> {
+        if self.bodies.depth() > DEPTH {
+            return self.bodies.too_deep(at);
+        }
+        let size = 1 + expression.as_ref().map_or(0, Tree::size);
+        if self.records.len() + size > RECORDS {
+            let told = mem::replace(&mut self.full, true);
+            let sentence = format!("the recipe is longer than {RECORDS} records from here on");
+            return if told { Ok(()) } else { Err(Fault::new(at, sentence)) };
         }
         self.records.push(Placed { record, at });
-        self.records.extend(expression);
+        expression.iter().for_each(|expression| expression.write(&mut self.records));
         Ok(())
     }
 }
 
 /// The names of a text's procedures, in their order; none of a text in the table's own notation.
 pub fn procedures(text: &str) -> Vec<String> {
-    let lines = lines(text).unwrap_or_default();
+    let lines = lines(text);
     let named = lines.iter().filter(|line| line.indent == 0).filter_map(|line| {
         let mut cursor = Cursor::new(line);
         cursor.accept("procedure").and_then(|_| cursor.word("").ok())
     });
     named.map(|(name, _)| name.to_string()).collect()
+}
+
+/// What is due where a statement names a variable.
+const VARIABLE: &str = "the name of a variable";
+
+/// The fault of a line whose first word is not the one that was meant, or none of the notation.
+fn misspelt(line: &Line, keyword: Option<&str>) -> Option<Fault> {
+    let mut cursor = Cursor::new(line);
+    let (word, at) = cursor.word("").ok().filter(|(word, _)| keyword != Some(word))?;
+    if let Some(fault) = cursor.assignment() {
+        return Some(fault);
+    }
+    let sentence = match word {
+        "else" if cursor.accept("if").is_none() => {
+            "there is no \"else\": set a variable to the condition first, \"set c CONDITION\", then write \"if c\" and \
+             \"if not c\"; a body may change what the condition reads"
+                .to_string()
+        }
+        "else" | "elif" => {
+            let shown = if word == "elif" { "\"elif\"" } else { "\"else if\"" };
+            format!(
+                "there is no {shown}: set a variable to the first condition, \"set c CONDITION\", then write \"if c\", \
+                 and \"if not c\" with the next condition's if in its body"
+            )
+        }
+        _ => {
+            let due = || format!(": one of {} is due here", keywords().collect::<Vec<_>>().join(", "));
+            format!("{} is no statement{}", quoted(word), keyword.map_or_else(due, question))
+        }
+    };
+    Some(Fault::new(at, sentence))
 }

@@ -2,9 +2,11 @@
 
 /// Lines of more characters than this are not shown with a fault.
 const SHOWN: usize = 160;
+/// So many faults of a text are told, the first by their places.
+pub const TOLD: usize = 20;
 
 /// A line and a column, both from 1; columns count characters.
-#[derive(Clone, Copy, Debug, PartialEq, Eq)]
+#[derive(Clone, Copy, Debug, PartialEq, Eq, PartialOrd, Ord)]
 pub struct Position {
     pub line: usize,
     pub column: usize,
@@ -50,9 +52,91 @@ impl Fault {
     }
 }
 
+/// The faults of a text by their places: the first are kept, of the others the number.
+#[derive(Clone, Debug, Default, PartialEq, Eq)]
+pub struct Faults {
+    told: Vec<Fault>,
+    more: usize,
+}
+
+impl Faults {
+    pub fn new() -> Faults {
+        Faults::default()
+    }
+
+    pub fn push(&mut self, fault: Fault) {
+        let Fault { at, sentence } = fault;
+        self.add(at, || sentence);
+    }
+
+    /// Adds a fault; its sentence is made only where it is kept.
+    pub fn add(&mut self, at: Position, sentence: impl FnOnce() -> String) {
+        let place = self.told.partition_point(|other| other.at <= at);
+        if place == TOLD {
+            self.more += 1;
+            return;
+        }
+        self.told.insert(place, Fault::new(at, sentence()));
+        self.more += usize::from(self.told.len() > TOLD);
+        self.told.truncate(TOLD);
+    }
+
+    pub fn is_empty(&self) -> bool {
+        self.told.is_empty()
+    }
+
+    /// Those that are told.
+    pub fn told(&self) -> &[Fault] {
+        &self.told
+    }
+
+    /// How many more were found.
+    pub fn more(&self) -> usize {
+        self.more
+    }
+
+    /// Each fault with the file's name, its line and a mark, and how many more there are.
+    pub fn show(&self, file: &str, text: &str) -> String {
+        let more = self.and_more().map(|more| format!("... {more}"));
+        self.told.iter().map(|fault| fault.show(file, text)).chain(more).collect::<Vec<_>>().join("\n")
+    }
+
+    /// The same without the text's lines; every line begins with the file's name.
+    pub fn heads(&self, file: &str) -> String {
+        let more = self.and_more().map(|more| format!("{file}: ... {more}"));
+        self.told.iter().map(|fault| fault.head(file)).chain(more).collect::<Vec<_>>().join("\n")
+    }
+
+    fn and_more(&self) -> Option<String> {
+        (self.more > 0).then(|| format!("and {} more", self.more))
+    }
+}
+
+impl From<Fault> for Faults {
+    fn from(fault: Fault) -> Faults {
+        Faults { told: vec![fault], more: 0 }
+    }
+}
+
 #[cfg(test)]
 mod tests {
     use super::*;
+
+    #[test]
+    fn the_first_faults_are_kept_in_their_order() {
+        let mut faults = Faults::new();
+        for line in [9, 3, 3, 40, 2] {
+            faults.push(Fault::new(Position { line, column: 1 }, format!("{line}")));
+        }
+        assert_eq!(faults.heads("f"), "f:2:1: 2\nf:3:1: 3\nf:3:1: 3\nf:9:1: 9\nf:40:1: 40");
+        for line in 10..30 {
+            faults.push(Fault::new(Position { line, column: 1 }, ""));
+        }
+        assert_eq!((faults.told().len(), faults.more()), (TOLD, 5));
+        assert_eq!(faults.told().last().map(|fault| fault.at.line), Some(25));
+        assert!(faults.show("f", "").ends_with("f:25:1: \n... and 5 more"));
+        assert!(faults.heads("f").ends_with("f:25:1: \nf: ... and 5 more"));
+    }
 
     #[test]
     fn a_fault_shows_its_line() {

@@ -4,14 +4,16 @@ use std::fmt;
 
 use recipe_runner::{RECORD, TABLE};
 
-use crate::source::Position;
+use crate::source::{Faults, Position};
 
 mod refusal;
 
-pub use refusal::describe;
+pub use refusal::{describe, told};
 
 /// The most records of a table.
 pub const RECORDS: usize = TABLE / RECORD;
+/// The most records that enclose one.
+pub const DEPTH: usize = 16;
 /// The name of the task's own parameter.
 pub const PARAMETER: u8 = 64;
 /// The first shared variable that is no valve.
@@ -106,6 +108,13 @@ impl fmt::Display for Record {
 pub struct Placed {
     pub record: Record,
     pub at: Position,
+}
+
+/// What a text without a fault gives.
+#[derive(Clone, Debug, Default)]
+pub struct Assembled {
+    pub records: Vec<Placed>,
+    pub warnings: Faults,
 }
 
 /// The bytes of a table.

@@ -21,12 +21,12 @@ finished 8
 ";
 const STUCK: &str = "procedure main\n  set x 7\n  await x\n";
 /// Awaits a variable that holds 0.
-const NOBODY: &str = "procedure main\n  await x\n";
+const NOBODY: &str = "procedure main\n  await x\nvariable x 8\n";
 /// Issues every number.
 const SPENT: &str = "procedure main\n  while 1\n    spawn x idle 0\n    suspend\nprocedure idle\n";
-const AT_GUARD: &str = "procedure main\n  guard x\n";
+const AT_GUARD: &str = "procedure main\n  guard x\nvariable x 8\n";
 /// Divides by a variable that is 0, in the second statement, at record 3.
-const SHARE: &str = "procedure main\n  set valve1 1\n  set valve0 6 / sensors\n";
+const SHARE: &str = "procedure main\n  set valve1 1\n  set valve0 6 / sensors\nvariable sensors 8\n";
 
 /// The names of a directory's files.
 fn files(directory: &Path) -> Vec<String> {
@@ -58,7 +58,7 @@ fn a_wait_at_a_guard_prints_0() {
     assert_eq!(stdout(&recipe(&d, &["run", "held.recipe"], b"")), "waits 1 0 0\nstuck 1\n");
     let listed = "variable v8 8\n\nprocedure main\n    guard v8\n";
     assert_eq!(stdout(&recipe(&d, &["dis", "held.recipe"], b"")), listed);
-    fs::write(d.join("past.recipe"), "procedure main\n  guard not x\n  set valve0 1\n").unwrap();
+    fs::write(d.join("past.recipe"), "procedure main\n  guard not x\n  set valve0 1\nvariable x 8\n").unwrap();
     let printed = "waits 1 0 0\ntaken 1 0 0\nvalve 1 0 1\nended 1 0 0\nfinished 4\n";
     assert_eq!(stdout(&recipe(&d, &["run", "past.recipe"], b"")), printed);
 }

@@ -1,7 +1,7 @@
 //! Faults of a text: where they are and what is said.
 
 use recipe::asm::assemble;
-use recipe::source::Position;
+use recipe::source::{Fault, Position};
 
 /// A text, the line and column of its fault, and a part of the sentence.
 const FAULTS: &[(&str, usize, usize, &str)] = &[
@@ -30,7 +30,7 @@ const FAULTS: &[(&str, usize, usize, &str)] = &[
     ("procedure main\n  set x (1", 2, 11, "is due here"),
     ("procedure main\n  set x 1 +", 2, 12, "an expression is due"),
     ("procedure main\n  set x = 1", 2, 9, "=="),
-    ("procedure main\n  set x 1 > 0", 2, 11, "b < a"),
+    ("procedure main\n  set x 1 % 2", 2, 11, "a - a / b * b"),
     ("procedure main\n  set and 1", 2, 7, "word of the notation"),
     ("procedure main\n  set x while", 2, 9, "word of the notation"),
     ("procedure main\n  if 1:", 2, 7, "indentation"),
@@ -71,10 +71,19 @@ const FAULTS: &[(&str, usize, usize, &str)] = &[
 #[test]
 fn faults_are_placed() {
     for (text, line, column, part) in FAULTS {
-        let fault = assemble(text).expect_err(text);
+        let fault = only(text);
         assert_eq!(fault.at, Position { line: *line, column: *column }, "{text}: {}", fault.sentence);
         assert!(fault.sentence.contains(part), "{text}: {}", fault.sentence);
     }
+}
+
+/// The only fault of a text.
+fn only(text: &str) -> Fault {
+    let faults = assemble(text).unwrap_err();
+    let [fault] = faults.told() else {
+        panic!("{faults:?}");
+    };
+    fault.clone()
 }
 
 #[test]
@@ -85,27 +94,27 @@ fn depth_over_16_is_placed() {
     };
     assert!(assemble(&nested(15)).is_ok());
     // The innermost test is at depth 17.
-    let fault = assemble(&nested(16)).unwrap_err();
+    let fault = only(&nested(16));
     assert_eq!(fault.at, Position { line: 17, column: 20 });
     assert!(fault.sentence.contains("depth is over 16"), "{}", fault.sentence);
-    let fault = assemble(&format!("procedure main\n  set x 1{}", " + 1".repeat(15))).unwrap_err();
+    let fault = only(&format!("procedure main\n  set x 1{}", " + 1".repeat(15)));
     assert!(fault.sentence.contains("depth is over 16"), "{}", fault.sentence);
-    assert_eq!(fault.at, Position { line: 2, column: 9 });
+    assert_eq!(fault.at, Position { line: 2, column: 67 });
 }
 
 #[test]
 fn too_many_are_placed() {
     let variables: String = (0..57).map(|number| format!("  set x{number} 1\n")).collect();
-    let fault = assemble(&format!("procedure main\n{variables}")).unwrap_err();
+    let fault = only(&format!("procedure main\n{variables}"));
     assert_eq!(fault.at, Position { line: 58, column: 7 });
     assert!(fault.sentence.contains("too many variables"));
-    let fault = assemble(&format!("procedure main\n{}", "  skip\n".repeat(4_096))).unwrap_err();
+    let fault = only(&format!("procedure main\n{}", "  skip\n".repeat(4_096)));
     assert_eq!(fault.at, Position { line: 4_097, column: 3 });
-    let fault = assemble(&"1(0,0,0)\n".repeat(4_097)).unwrap_err();
+    let fault = only(&"1(0,0,0)\n".repeat(4_097));
     assert_eq!(fault.at, Position { line: 4_097, column: 1 });
     let procedures: String = (1..=256).map(|number| format!("procedure q{number}\n")).collect();
     assert!(assemble(&format!("procedure main\n  spawn x q255 1\n{procedures}")).is_ok());
-    let fault = assemble(&format!("procedure main\n  spawn x q256 1\n{procedures}")).unwrap_err();
+    let fault = only(&format!("procedure main\n  spawn x q256 1\n{procedures}"));
     assert_eq!(fault.at, Position { line: 2, column: 11 });
     assert!(fault.sentence.contains("only 0 to 255"));
 }

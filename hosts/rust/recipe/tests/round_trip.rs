@@ -48,9 +48,9 @@ fn the_extremes_come_back() {
         procedures,
         format!("procedure main\n{nested}"),
         format!("procedure main\n{variables}"),
-        format!("procedure main\n  set valve0 {}x{}", "-(".repeat(14), ")".repeat(14)),
-        format!("procedure main\n  set valve0 {}x", "not ".repeat(14)),
-        format!("procedure main\n  guard {}x", "not ".repeat(14)),
+        format!("variable x 8\nprocedure main\n  set valve0 {}x{}", "-(".repeat(14), ")".repeat(14)),
+        format!("variable x 8\nprocedure main\n  set valve0 {}x", "not ".repeat(14)),
+        format!("variable x 8\nprocedure main\n  guard {}x", "not ".repeat(14)),
     ] {
         let table = assemble(&text).unwrap();
         assert_eq!(assemble(&listing::list(&table).unwrap()).unwrap(), table);
@@ -73,7 +73,7 @@ fn tables_of_any_content_are_survived() {
             Ok(text) => assert_eq!(assemble(&text), Ok(table)),
             // The records as listed, one a line, have the same fault at the same place.
             Err(refusal) if refusal.number != 11 => {
-                let fault = assemble(&rows).unwrap_err();
+                let fault = assemble(&rows).unwrap_err().told()[0].clone();
                 assert_eq!(fault.at.line, refusal.place as usize + 1);
                 let told = format!("refused {} at record {}", refusal.number, refusal.place);
                 assert!(fault.sentence.contains(&told), "{}", fault.sentence);
@@ -85,10 +85,11 @@ fn tables_of_any_content_are_survived() {
 
 /// What random texts are made of.
 #[rustfmt::skip]
-const PIECES: [&str; 36] = [
+const PIECES: [&str; 43] = [
     "procedure ", "main", "\n", "\n ", "\n  ", "\n    ", " set ", " if ", " while ", " spawn ", " await ", " guard ",
     " skip", " suspend", " x ", " y ", "valve3 ", " 1 ", " -5 ", "(", ")", " + ", " - ", " < ", " == ", " not ", " and ",
-    "#", "é", "\t", "variable ", "1(0,0,0) ", "parameter ", "99999999999 ", ",", "\u{0}",
+    " <= ", " > ", " >= ", " != ", " or ", " 0x1F ", "%", "#", "é", "\t", "variable ",
+    "1(0,0,0) ", "parameter ", "99999999999 ", ",", "\u{0}",
 ];
 
 #[test]

@@ -29,7 +29,7 @@ procedure press p
         Ending::Finished,
         9,
     ),
-    ("1(0,1,0) 8(8,0,0)", "procedure main\n await x", &[(1, 0, 1, 0), (8, 8, 0, 0)], Ending::Finished, 3),
+    ("1(0,1,0) 8(8,0,0)", "procedure main\n await x\nvariable x 8", &[(1, 0, 1, 0), (8, 8, 0, 0)], Ending::Finished, 3),
     (
         "1(0,3,0) 3(8,1,0) 9(0,0,1) 8(8,0,0)",
         "procedure main\n set x 1\n await x",

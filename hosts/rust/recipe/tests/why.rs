@@ -42,6 +42,7 @@ procedure hold other
     await other
 procedure watch other
     await other
+variable pressure 63
 ";
 
 /// Writes a text, its table, and the text in the table's own notation, and runs it to a saved state.
@@ -99,7 +100,10 @@ fn each_end_is_told() {
              task 2 waits for task 1 (record 13, its parameter)\n\
              task 1 waits at a guard that is untrue (record 7)\n",
         ),
-        ("procedure main\n  guard 6 / sensors\n", "task 1 waits at a guard that is untrue (record 1)\n"),
+        (
+            "procedure main\n  guard 6 / sensors\nvariable sensors 8\n",
+            "task 1 waits at a guard that is untrue (record 1)\n",
+        ),
     ] {
         assert_eq!(told(&d, text), lines, "{text}");
     }
@@ -142,7 +146,7 @@ fn a_text_has_its_lines_told() {
         let ran = recipe(&d, &["run", file], b"");
         assert_eq!((status(&ran), stderr(&ran)), (4, lines));
     }
-    saved(&d, "procedure main\n  guard 2 < pressure # the press\n");
+    saved(&d, "procedure main\n  guard 2 < pressure # the press\nvariable pressure 8\n");
     let line = "task 1 waits at a guard that is untrue (record 1; line 2: \"guard 2 < pressure\")\n";
     assert_eq!(stdout(&recipe(&d, &["why", "t.recipe", "state"], b"")), line);
 }
@@ -163,7 +167,7 @@ fn states_that_are_not_stuck_are_refused() {
     assert_eq!(saved(&d, "procedure main\n  skip\n"), "finished 2");
     refused("t.recipe", "", "no task is left");
     let note = "state: this is a bare block, which carries no checksum\n";
-    assert_eq!(saved(&d, "procedure main\n  guard x\n"), "stuck 1");
+    assert_eq!(saved(&d, "procedure main\n  guard x\nvariable x 8\n"), "stuck 1");
     rewrite(&d, "state", VARIABLES_AT + 8 * VARIABLE, &[1]);
     refused("raw.recipe", note, "a task of its queue can go on");
     assert_eq!(saved(&d, "procedure main\n  set x 7\n  await x\n"), "stuck 2");
@@ -204,7 +208,7 @@ fn refused_tables_and_states_are_told_as_by_a_resumed_run() {
 #[test]
 fn wrong_lines_are_told() {
     let d = directory("why_wrong");
-    saved(&d, "procedure main\n  await x\n");
+    saved(&d, "procedure main\n  await x\nvariable x 8\n");
     for arguments in [
         &["why"][..],
         &["why", "t.table"],

@@ -26,14 +26,18 @@ fn foreign(bytes: &[u8]) -> Option<&'static str> {
 }
 
 fn sentence(table: &[u8], refusal: Refusal) -> String {
-    let records = decode(table);
+    let told = told(&decode(table), refusal);
+    match refusal.number {
+        11 => length(table.len()),
+        _ => format!("{}{told}", described(table, refusal.place)),
+    }
+}
+
+/// What is wrong with the record that a refusal names.
+pub fn told(records: &[Record], refusal: Refusal) -> String {
     let place = refusal.place as usize;
     match (refusal.number, records.get(place)) {
-        (11, _) => length(table.len()),
-        (12..=17, Some(record)) => {
-            let fault = Fault { records: &records, place, record: *record };
-            format!("{}{}", described(table, refusal.place), fault.told(refusal))
-        }
+        (12..=17, Some(record)) => Fault { records, place, record: *record }.told(refusal),
         _ => refusal.words().to_string(),
     }
 }
