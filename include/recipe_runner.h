@@ -37,8 +37,9 @@
  *   System V convention: at a call the stack is aligned to 16 bytes, as every
  *   C compiler does; a caller in assembly, or one that switches stacks, has to.
  *   The level is not looked at when it runs. From the C library memcpy and
- *   memset. It has no data of its own, is position-independent and uses no red
- *   zone. docs/INTEGRATION.md has the other targets of the toolchain.
+ *   memset. It has no data of its own, is position-independent and, as built
+ *   here, uses no red zone. docs/INTEGRATION.md has the other targets of the
+ *   toolchain.
  *
  * Formats
  *   docs/FORMAT.md has the table, the state, the log and the order of the tests,
