@@ -58,7 +58,7 @@ impl Heading<'_> {
         let why = match self.ending {
             Ending::Finished => "No task is left.",
             Ending::Paused => "The steps are used up.",
-            Ending::Stuck => "Every task waits, and none can ever go on.",
+            Ending::Stuck => "Every task waits for a number that is not done or for an untrue guard.",
             Ending::Tasks => "The next step is a spawn, and 32 tasks are live.",
             Ending::Spent => "The next step is a spawn, and all numbers are issued.",
             Ending::Logfull => return format!("It goes on: no more than {} records are drawn.", timeline.records),

@@ -47,6 +47,7 @@ pub const HEADING: f64 = 19.0;
 /// The space between the tasks' lanes and the valves', and the height of one of those.
 const VALVES: f64 = 10.0;
 const VALVE_ROW: f64 = VALUES + 12.0;
+
 /// One lane's place.
 pub struct Row<'t> {
     pub lives: Vec<Life<'t>>,
