@@ -118,6 +118,18 @@ fn other_bytes_are_given_to_the_program() {
     }
 }
 
+#[test]
+fn help_is_given() {
+    let d = tree("script_help");
+    for help in ["-h", "--help"] {
+        let output = called(&d, &[help], "finished 8\n", "0");
+        assert_eq!((status(&output), &*stderr(&output)), (0, ""));
+        let text = stdout(&output);
+        assert!(text.starts_with("usage: ./run [FILE]\n") && (0..7).all(|n| text.contains(&format!(" {n} "))));
+        assert!(!d.join("kept").exists());
+    }
+}
+
 /// As it stands in the repository, from another directory.
 #[test]
 fn the_script_can_be_called_from_anywhere() {
