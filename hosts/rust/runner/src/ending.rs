@@ -67,7 +67,7 @@ pub struct Refusal {
 
 impl Refusal {
     /// As the print program has it: `refused 13 4`.
-    pub fn printed(self) -> Printed {
+    pub fn printed(self) -> impl fmt::Display {
         Printed(self)
     }
 
@@ -108,8 +108,7 @@ impl fmt::Display for Refusal {
 impl core::error::Error for Refusal {}
 
 /// A refusal as the print program has it: the word, the number and the place.
-#[derive(Clone, Copy, Debug, PartialEq, Eq)]
-pub struct Printed(Refusal);
+struct Printed(Refusal);
 
 impl fmt::Display for Printed {
     fn fmt(&self, f: &mut fmt::Formatter) -> fmt::Result {
