@@ -37,13 +37,13 @@
  *   System V convention: at a call the stack is aligned to 16 bytes, as every
  *   C compiler does; a caller in assembly, or one that switches stacks, has to.
  *   The level is not looked at when it runs. From the C library memcpy and
- *   memset. It has no data of its own, is position-independent and, as built
- *   here, uses no red zone. docs/INTEGRATION.md has the other targets of the
- *   toolchain.
+ *   memset. It has no data that is written (constants alone, in .rodata), is
+ *   position-independent and, as built here, uses no red zone.
+ *   docs/INTEGRATION.md has the other targets of the toolchain.
  *
  * Formats
- *   docs/FORMAT.md has the table, the state, the log and the order of the tests,
- *   byte by byte.
+ *   docs/FORMAT.md has the table, the state, the log and the order of the
+ *   tests, byte by byte.
  */
 #ifndef RECIPE_RUNNER_H
 #define RECIPE_RUNNER_H
@@ -102,7 +102,7 @@ extern "C" {
 #define RECIPE_OUTCOME_BYTES 8
 
 /* The number of each call: accepted (0), an ending (0-5, 24) or a refusal
-   (11-23, 25, 26). */
+   (11-17, 21-23, 25, 26). */
 enum recipe_number {
     /* recipe_start: the table is accepted and the fresh state written.
        recipe_why_stuck: the state is stuck and the chain written.
