@@ -8,7 +8,7 @@ use recipe_runner::{Record, Refusal, State};
 
 use crate::args::{Given, Options};
 use crate::content::Content;
-use crate::failure::Failure;
+use crate::failure::{Failure, TOOL, USAGE};
 use crate::files::{self, Loaded};
 use crate::words::quoted;
 use crate::{check, help, listing, raw, saved, state, why};
@@ -92,10 +92,12 @@ fn check(given: &Given) -> Result<u8, Failure> {
     let inputs = CHECK.inputs(given)?;
     let mut status = 0;
     for verdict in check::verdicts(&inputs) {
-        // What is wrong with a recipe is what was asked for, and no message beside it.
+        // What is wrong with a recipe is what was asked for, and no message of the tool's beside it.
         let line = verdict.unwrap_or_else(|failure| {
             status = status.max(failure.status);
-            if inputs.len() == 1 { failure.shown() } else { &failure.message }.to_string()
+            let told = if inputs.len() == 1 { failure.shown() } else { &failure.message };
+            let of_tool = told.strip_prefix(TOOL).filter(|_| failure.status == USAGE);
+            of_tool.unwrap_or(told).to_string()
         });
         print(&format!("{line}\n"))?;
     }

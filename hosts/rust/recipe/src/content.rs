@@ -23,7 +23,7 @@ impl Content {
         match bytes {
             [] => Content::Empty,
             _ if saved::is_saved(bytes) || state::read(bytes).is_ok() => Content::State,
-            _ if bytes.starts_with(b"<svg") || bytes.starts_with(b"<?xml") => Content::Picture,
+            _ if is_picture(bytes) => Content::Picture,
             _ if is_table(bytes) => Content::Table,
             _ if is_text(bytes) => Content::Text,
             _ => Content::Other,
@@ -47,6 +47,14 @@ impl fmt::Display for Content {
 /// Whether bytes are a table, or begin as one and have whole records.
 fn is_table(bytes: &[u8]) -> bool {
     State::start(bytes).is_ok() || bytes.first() == Some(&1) && bytes.len() % RECORD == 0
+}
+
+/// Whether bytes begin as an SVG picture, with or without an XML declaration.
+fn is_picture(bytes: &[u8]) -> bool {
+    let declared = bytes.starts_with(b"<?xml").then(|| bytes.windows(2).position(|pair| pair == b"?>")).flatten();
+    let rest = declared.and_then(|end| bytes.get(end + 2..)).unwrap_or(bytes).trim_ascii_start();
+    let next = rest.strip_prefix(b"<svg").and_then(|rest| rest.first());
+    next.is_some_and(|next| next.is_ascii_whitespace() || matches!(next, b'>' | b'/'))
 }
 
 /// Whether bytes are text; the last character may be cut short.
@@ -79,7 +87,11 @@ mod tests {
             (&[1, 9, 9, 9, 9, 9, 9, 9], Content::Table),
             (&[1, 9, 9], Content::Other),
             (b"<svg xmlns", Content::Picture),
-            (b"<?xml version", Content::Picture),
+            (b"<svg/>", Content::Picture),
+            (b"<?xml version=\"1.0\"?>\n<svg>", Content::Picture),
+            (b"<?xml version=\"1.0\"?><data/>", Content::Text),
+            (b"<?xml version", Content::Text),
+            (b"<svgfoo>", Content::Text),
             (b"procedure main\n\tskip\r\n", Content::Text),
             (b"recipe state of the press\n", Content::Text),
             ("\u{feff}# \u{e4}".as_bytes(), Content::Text),

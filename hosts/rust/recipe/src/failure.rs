@@ -8,6 +8,9 @@ use recipe_runner::{Ending, Refusal};
 use crate::source::Faults;
 use crate::table::describe;
 
+/// How a message begins that is of no recipe.
+pub const TOOL: &str = "recipe: ";
+
 /// The input is refused or at fault.
 pub const FAULT: u8 = 1;
 /// The command line is wrong, or a file cannot be read or written.
@@ -73,10 +76,13 @@ impl Failure {
     }
 
     pub fn usage(message: impl Display) -> Failure {
-        Failure::new(USAGE, format!("recipe: {message}"))
+        Failure::new(USAGE, format!("{TOOL}{message}"))
     }
 
     pub fn io(name: impl Display, error: &io::Error) -> Failure {
-        Failure::usage(format_args!("{name}: {error}"))
+        let told = error.to_string();
+        // The system's number of the error tells nobody more.
+        let told = told.split_once(" (os error").map_or(&*told, |(words, _)| words);
+        Failure::usage(format_args!("{name}: {told}"))
     }
 }

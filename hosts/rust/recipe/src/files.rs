@@ -12,7 +12,10 @@ use crate::content::Content;
 use crate::failure::{Failure, USAGE};
 use crate::source::Faults;
 use crate::table::{encode, Assembled, Placed};
+use crate::words::quoted;
 
+/// The name that leads to standard output.
+const STANDARD_OUTPUT: &str = "/dev/stdout";
 /// How many names of temporary files are tried.
 const ATTEMPTS: u32 = 16;
 
@@ -32,7 +35,16 @@ pub struct Source {
 
 /// What a file is called in messages.
 pub fn shown(file: Option<&Path>) -> String {
-    file.map_or("standard input".to_string(), |path| path.display().to_string())
+    file.map_or("standard input".to_string(), named)
+}
+
+/// A file's name, with no character that a terminal would obey; an empty one in quotation marks.
+pub fn named(path: &Path) -> String {
+    if path.as_os_str().is_empty() {
+        return quoted("");
+    }
+    let plain = |c: char| if c.is_control() { char::REPLACEMENT_CHARACTER } else { c };
+    path.to_string_lossy().chars().map(plain).collect()
 }
 
 /// The bytes of a file or of standard input, at most one more than `limit`: that one tells that it is too long.
@@ -58,7 +70,7 @@ fn trouble(file: Option<&Path>, error: &io::Error) -> Failure {
 }
 
 fn directory(path: &Path) -> Failure {
-    Failure::usage(format_args!("{}: this is a directory, and a file is due", path.display()))
+    Failure::usage(format_args!("{}: this is a directory, and a file is due", named(path)))
 }
 
 /// Reads a text and assembles it; its warnings are told.
@@ -89,9 +101,9 @@ pub fn load(file: Option<&Path>) -> Result<Loaded, Failure> {
     Ok(Loaded { name: shown(file), table: read(file, TABLE)?, source: None })
 }
 
-/// Writes to a file, or to standard output.
+/// Writes to a file, or to standard output, also where the file is what that goes to.
 pub fn write(file: Option<&Path>, bytes: &[u8]) -> Result<(), Failure> {
-    match file {
+    match file.filter(|path| !is_standard_output(path)) {
         Some(path) => place(path, bytes).map_err(|error| trouble(file, &error)),
         None => {
             let mut output = io::stdout().lock();
@@ -106,13 +118,20 @@ pub fn write_over(file: Option<&Path>, bytes: &[u8], kind: Content, force: bool)
     write(file, bytes)
 }
 
-/// Whether a file may be written: no directory, and unless forced none of another kind and none that is read-only.
+/// Whether a file may be written: no directory, one in a folder that takes files, and unless forced none of another kind
+/// and none that is read-only.
 pub fn replaceable(file: Option<&Path>, kind: Content, force: bool) -> Result<(), Failure> {
-    if let Some(path) = file.filter(|path| path.is_dir()) {
+    let Some(path) = file.filter(|path| !is_standard_output(path)) else { return Ok(()) };
+    if path.is_dir() {
         return Err(directory(path));
     }
-    let Some(path) = file.filter(|path| !force && path.is_file()) else { return Ok(()) };
-    let kept = |why: String| Failure::usage(format_args!("{}: {why} (--force replaces it)", path.display()));
+    if path.is_file() || !path.exists() {
+        takes_files(path)?;
+    }
+    if force || !path.is_file() {
+        return Ok(());
+    }
+    let kept = |why: String| Failure::usage(format_args!("{}: {why} (--force replaces it)", named(path)));
     if is_read_only(path) {
         return Err(kept("the file is read-only".to_string()));
     }
@@ -121,6 +140,15 @@ pub fn replaceable(file: Option<&Path>, kind: Content, force: bool) -> Result<()
         found if found == kind => Ok(()),
         found => Err(kept(format!("the file is {found}, and {kind} would replace it"))),
     }
+}
+
+/// Whether a file can be put beside this one.
+fn takes_files(path: &Path) -> Result<(), Failure> {
+    let tried = beside(&real(path)).and_then(|(_, temporary)| fs::remove_file(temporary));
+    tried.map_err(|error| match error.kind() {
+        ErrorKind::NotFound => Failure::usage(format_args!("{}: there is no such folder", named(path))),
+        _ => Failure::io(format_args!("{}: no file can be written in its folder", named(path)), &error),
+    })
 }
 
 /// What a file is that would be replaced. Where its content does not tell, a table's name does.
@@ -154,13 +182,18 @@ pub fn printed(error: &io::Error) -> Failure {
 /// Puts a file in place whole or not at all.
 fn place(path: &Path, bytes: &[u8]) -> io::Result<()> {
     match fs::metadata(path) {
-        // Through a link, so that it stays one.
-        Ok(old) if old.is_file() => replace(&fs::canonicalize(path)?, bytes, Some(old.permissions())),
+        Ok(old) if old.is_file() => replace(&real(path), bytes, Some(old.permissions())),
         // A device or a pipe cannot be replaced.
         Ok(_) => OpenOptions::new().write(true).open(path)?.write_all(bytes),
-        Err(error) if error.kind() == ErrorKind::NotFound => replace(path, bytes, None),
+        Err(error) if error.kind() == ErrorKind::NotFound => replace(&real(path), bytes, None),
         Err(error) => Err(error),
     }
+}
+
+/// The file behind a link, so that it stays one; also where that file is not there.
+fn real(path: &Path) -> PathBuf {
+    let behind = || Some(path.parent()?.join(fs::read_link(path).ok()?));
+    fs::canonicalize(path).ok().or_else(behind).unwrap_or_else(|| path.to_path_buf())
 }
 
 fn replace(path: &Path, bytes: &[u8], permissions: Option<fs::Permissions>) -> io::Result<()> {
@@ -190,10 +223,18 @@ fn beside(path: &Path) -> io::Result<(File, PathBuf)> {
     }
 }
 
-/// Whether an output would replace the input it is made from.
+/// Whether an output would replace the input it is made from. The standard streams may be files, too.
 pub fn same(input: Option<&Path>, output: Option<&Path>) -> bool {
-    // Standard input may be a file, too.
-    let input = fs::canonicalize(input.unwrap_or(Path::new("/dev/stdin"))).ok();
-    let output = output.and_then(|path| fs::canonicalize(path).ok());
-    input.is_some_and(|path| path.is_file() && output == Some(path))
+    one_file(input.unwrap_or(Path::new("/dev/stdin")), output.unwrap_or(Path::new(STANDARD_OUTPUT)))
+}
+
+/// Whether a name leads to the file that standard output goes to.
+pub fn is_standard_output(path: &Path) -> bool {
+    one_file(path, Path::new(STANDARD_OUTPUT))
+}
+
+/// Whether two names lead to one file.
+fn one_file(one: &Path, other: &Path) -> bool {
+    let one = fs::canonicalize(one).ok().filter(|path| path.is_file());
+    one.is_some() && one == fs::canonicalize(other).ok()
 }

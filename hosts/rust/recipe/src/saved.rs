@@ -102,6 +102,10 @@ fn no_state(name: &str, bytes: &[u8]) -> Option<Failure> {
     }
     let what = match content {
         Content::Empty => "the file is empty".to_string(),
+        Content::Other if bytes.len() == SAVED => {
+            let sentence = "this is no saved state: it has the size of one, and does not begin as one";
+            return Some(Failure::new(FAULT, format!("{name}: {sentence}")));
+        }
         _ if other => format!("this is {content} of {}, and no saved state", size(bytes)),
         _ => format!("this is no saved state: it has {}", size(bytes)),
     };

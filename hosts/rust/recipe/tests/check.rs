@@ -55,8 +55,8 @@ fn a_file_at_fault_leaves_the_others_checked() {
     let files = ["refused", "a.table", "bad.recipe", "missing", "a.recipe", "folder", "empty", "long", "a.table"];
     let (status, lines) = checked(&d, &files);
     let starts = files.map(|file| match file {
-        "missing" => format!("recipe: {file}: "),
-        "folder" => format!("recipe: {file}: this is a directory, and a file is due"),
+        "missing" => format!("{file}: "),
+        "folder" => format!("{file}: this is a directory, and a file is due"),
         "bad.recipe" => format!("{file}:{BAD_WORDS}"),
         "refused" => format!("{file}: {REFUSED_WORDS}"),
         "empty" => format!("{file}: {EMPTY_WORDS}"),

@@ -224,7 +224,7 @@ fn outputs_replace_old_files_whole() {
     fs::write(d.join("out.table"), vec![7; 5_000]).unwrap();
     assert_eq!(status(&recipe(&d, &["asm", "a.recipe", "-o", "out.table"], b"")), 0);
     assert_eq!(fs::read(d.join("out.table")).unwrap(), row_a());
-    fs::write(d.join("out.svg"), "<svg").unwrap();
+    fs::write(d.join("out.svg"), "<svg/>").unwrap();
     assert_eq!(status(&recipe(&d, &["timeline", "a.recipe", "-o", "out.svg"], b"")), 0);
     assert!(fs::read_to_string(d.join("out.svg")).unwrap().ends_with("</svg>\n"));
     // Its own input is kept.

@@ -160,7 +160,46 @@ fn devices_and_links_go_on_working() {
     assert_eq!(status(&recipe(&d, &["asm", "a.recipe", "-o", "link"], b"")), 2);
     assert_eq!(status(&recipe(&d, &["dis", "a.table", "-o", "link"], b"")), 0);
     assert!(fs::symlink_metadata(d.join("link")).unwrap().is_symlink());
-    fs::remove_file(d.join("link")).unwrap();
+    // One that leads to nothing yet.
+    std::os::unix::fs::symlink("new.table", d.join("dangling")).unwrap();
+    assert_eq!(status(&recipe(&d, &["asm", "a.recipe", "-o", "dangling"], b"")), 0);
+    assert!(fs::symlink_metadata(d.join("dangling")).unwrap().is_symlink());
+    assert_eq!(fs::read(d.join("new.table")).unwrap(), row_a());
+}
+
+/// Runs the tool with a file as its standard output, which it goes on from; gives what the file holds then.
+#[cfg(target_os = "linux")]
+fn into_file(d: &Path, line: &[&str], file: &str) -> (i32, Vec<u8>) {
+    let output = File::options().read(true).append(true).create(true).open(d.join(file)).unwrap();
+    let mut command = Command::new(env!("CARGO_BIN_EXE_recipe"));
+    command.args(line).current_dir(d).stdin(Stdio::null()).stdout(output).stderr(Stdio::null());
+    let status = command.status().unwrap().code().unwrap();
+    (status, fs::read(d.join(file)).unwrap())
+}
+
+#[cfg(target_os = "linux")]
+#[test]
+fn a_name_of_standard_output_is_written_through() {
+    let d = with_files("kept_stdout");
+    fs::write(d.join("log"), "before\n").unwrap();
+    let (status, written) = into_file(&d, &["asm", "a.recipe", "-o", "/dev/stdout"], "log");
+    assert_eq!((status, written), (0, [b"before\n", &row_a()[..]].concat()));
+    // A state would take the place of the records.
+    let (status, written) = into_file(&d, &["run", "a.table", "--save", "/dev/stdout"], "new");
+    assert_eq!((status, written), (2, Vec::new()));
+    // What is made of a file does not go into it, by whatever way.
+    let (status, written) = into_file(&d, &["asm", "a.recipe"], "a.recipe");
+    assert_eq!((status, written), (2, TEXT_A.as_bytes().to_vec()));
+}
+
+#[test]
+fn only_pictures_count_as_pictures() {
+    let d = with_files("kept_xml");
+    for text in ["<?xml version=\"1.0\"?><data/>", "<svgfoo>"] {
+        fs::write(d.join("x.xml"), text).unwrap();
+        assert_eq!(status(&recipe(&d, &["timeline", "a.table", "-o", "x.xml"], b"")), 2);
+        assert_eq!(fs::read_to_string(d.join("x.xml")).unwrap(), text);
+    }
 }
 
 /// Of a refused table nothing is listed, but by `--raw`.
@@ -186,4 +225,7 @@ fn a_run_that_could_not_be_saved_does_not_begin() {
     let output = command.output().unwrap();
     assert_eq!((status(&output), &*stdout(&output)), (2, ""));
     assert_eq!(fs::read(d.join(Path::new("text"))).unwrap(), b"text");
+    let output = recipe(&d, &["run", "for_ever.recipe", "--save", "nowhere/state"], b"");
+    let told = "recipe: nowhere/state: there is no such folder\n";
+    assert_eq!((status(&output), &*stdout(&output), &*stderr(&output)), (2, "", told));
 }

@@ -119,6 +119,41 @@ fn other_bytes_are_given_to_the_program() {
 }
 
 #[test]
+fn what_keeps_the_program_from_running_is_told() {
+    let d = tree("script_kept");
+    fs::create_dir(d.join("none")).unwrap();
+    let empty = called(&d, &[], "", "0");
+    assert_eq!((status(&empty), &*stderr(&empty)), (2, &*format!("{FIRST}run: the program printed nothing\n")));
+    let run = |name: &str, value: &str| {
+        let mut command = Command::new("/bin/sh");
+        command.arg("run").current_dir(&d).stdin(Stdio::null());
+        let path = format!("{}:{}", d.join("bin").display(), env::var("PATH").unwrap());
+        let output = command.env("PATH", path).env("KEPT", d.join("kept")).env(name, value).output().unwrap();
+        (status(&output), stderr(&output).lines().last().unwrap().to_string())
+    };
+    assert_eq!(run("TMPDIR", "/nowhere/at/all"), (2, "run: no temporary folder can be made".to_string()));
+    fs::remove_file(d.join("bin/rt")).unwrap();
+    fs::rename(d.join("crates/recipe_print"), d.join("crates/other")).unwrap();
+    let (status, told) = run("LC_ALL", "C");
+    assert!(status == 2 && told.ends_with("recipe_print: the print program's folder is not there"), "{told}");
+}
+
+/// By a link, and with a search path for folders.
+#[test]
+fn the_script_finds_its_tree() {
+    let d = tree("script_link");
+    let other = directory("script_link_other");
+    std::os::unix::fs::symlink(d.join("run"), other.join("linked")).unwrap();
+    std::os::unix::fs::symlink("linked", other.join("again")).unwrap();
+    let path = format!("{}:{}", d.join("bin").display(), env::var("PATH").unwrap());
+    let mut command = Command::new("sh");
+    command.arg("again").current_dir(&other).env("CDPATH", &d).env("PATH", path).stdin(Stdio::null());
+    let output = command.env("KEPT", d.join("kept")).env("PRINTED", "finished 8\\n").env("ENDS", "0").output().unwrap();
+    assert_eq!((status(&output), &*stdout(&output)), (0, "finished 8\n"), "{}", stderr(&output));
+    assert_eq!(fs::read(d.join("kept")).unwrap(), row_a());
+}
+
+#[test]
 fn help_is_given() {
     let d = tree("script_help");
     for help in ["-h", "--help"] {

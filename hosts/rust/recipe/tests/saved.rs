@@ -75,6 +75,16 @@ fn damaged_states_are_refused() {
             assert!(stderr(&output).starts_with(&format!("bad: {told}")), "{}", stderr(&output));
         }
     }
+    for at in [0, 3, 15] {
+        let mut damaged = saved.clone();
+        damaged[at] = 0;
+        fs::write(d.join("bad"), damaged).unwrap();
+        for line in takers("bad") {
+            let told = "bad: this is no saved state: it has the size of one, and does not begin as one\n";
+            let output = recipe(&d, &line, b"");
+            assert_eq!((status(&output), &*stdout(&output), &*stderr(&output)), (1, "", told));
+        }
+    }
     for length in [16, 24, 32, 776, 807] {
         fs::write(d.join("bad"), &saved[..length]).unwrap();
         for line in takers("bad") {

@@ -32,6 +32,9 @@ pub fn run(given: &Given) -> Result<u8, Failure> {
     let slice = RUN.count(given, "--slice", 1, LONGEST_SLICE.into())?.unwrap_or(SLICE.into());
     let (resume, save) = (RUN.state(given, "--resume")?, RUN.state(given, "--save")?);
     keep_input(&RUN, given.input().as_deref(), save)?;
+    if save.is_some_and(files::is_standard_output) {
+        return Err(RUN.wrong("--save names the file that standard output goes to".to_string()));
+    }
     let loaded = files::load(given.input().as_deref())?;
     let state = begun(&loaded, resume)?;
     files::replaceable(save, Content::State, given.flag("--force"))?;
@@ -140,7 +143,7 @@ fn unsaved(error: &io::Error, save: Option<&Path>) -> Failure {
     match save {
         Some(path) => Failure::usage(format_args!(
             "standard output: {error}; {} is left as it was before these records",
-            path.display()
+            files::named(path)
         )),
         None => files::printed(error),
     }

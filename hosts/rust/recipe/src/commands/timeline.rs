@@ -11,6 +11,7 @@ use crate::files::{self, Loaded};
 use crate::picture::{self, Heading};
 use crate::readable;
 use crate::timeline::Timeline;
+use crate::words::counted;
 
 /// The most steps, unless given.
 const STEPS: u32 = 10_000;
@@ -67,8 +68,8 @@ fn window(given: &Given) -> Result<(usize, usize), Failure> {
 /// The part of a run that lies in the window.
 fn part(timeline: Timeline, (from, to): (usize, usize)) -> Result<Timeline, Failure> {
     if from > 0 && from >= timeline.records {
-        let records = timeline.records;
-        return Err(TIMELINE.wrong(format!("--from is {from}, and the run has {records} log records")));
+        let records = counted(timeline.records, "log record");
+        return Err(TIMELINE.wrong(format!("--from is {from}, and the run has {records}")));
     }
     Ok(if from > 0 || to < timeline.records { timeline.part(from, to) } else { timeline })
 }
