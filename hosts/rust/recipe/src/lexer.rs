@@ -85,11 +85,15 @@ pub struct Line<'a> {
 
 impl<'a> Line<'a> {
     pub fn words(&self) -> impl Iterator<Item = &'a str> + '_ {
-        self.lexemes.iter().filter_map(|lexeme| match lexeme.token {
-            Token::Word(word) => Some(word),
-            _ => None,
-        })
+        words(&self.lexemes)
     }
+}
+
+fn words<'a, 'l>(lexemes: &'l [Lexeme<'a>]) -> impl Iterator<Item = &'a str> + 'l {
+    lexemes.iter().filter_map(|lexeme| match lexeme.token {
+        Token::Word(word) => Some(word),
+        _ => None,
+    })
 }
 
 /// The lines of a text.
@@ -155,7 +159,7 @@ fn stray(text: &str) -> String {
 }
 
 /// Walks over the tokens of a line.
-#[derive(Debug)]
+#[derive(Clone, Debug)]
 pub struct Cursor<'a, 'l> {
     lexemes: &'l [Lexeme<'a>],
     end: Position,
@@ -173,6 +177,11 @@ impl<'a, 'l> Cursor<'a, 'l> {
     /// The position of the next token, or the line's end.
     pub fn at(&self) -> Position {
         self.peek().map_or(self.end, |lexeme| lexeme.at)
+    }
+
+    /// The words that are left.
+    pub fn words(&self) -> impl Iterator<Item = &'a str> + 'l {
+        words(self.lexemes)
     }
 
     pub fn take(&mut self) -> Option<Lexeme<'a>> {

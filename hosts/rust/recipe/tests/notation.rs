@@ -463,6 +463,100 @@ fn two_lines_at_fault_are_told_alone() {
     }
 }
 
+/// Lines at fault that give names a meaning behind what is wrong, and lines that need it.
+#[rustfmt::skip]
+const GIVING: &[(&str, &[&str])] = &[
+    ("set a 1; set b 2", &["set valve0 a + b"]),
+    ("set a 1, set b 2", &["set valve0 a + b"]),
+    ("set a 5 set b 6", &["set valve0 a + b", "await b"]),
+    ("a = 1; b = 2", &["set valve0 a + b"]),
+    ("a, b = 1, 2", &["set valve0 a + b"]),
+    ("let a = b; set b 1", &["set valve0 a + b"]),
+    ("if 1: set b 2", &["guard b"]),
+    ("if 1 set b 2", &["guard b"]),
+    ("else: set b 2", &["guard b"]),
+    ("else if 1: set b 2", &["guard b"]),
+    ("while 1 { set b 2; suspend }", &["guard b"]),
+    ("await p, set high 1", &["guard high"]),
+    ("set 5 a", &["guard a"]),
+    ("spawn press t 5", &["await t", "spawn u press 5"]),
+    ("spawn 5 t press", &["await t", "spawn u press 5"]),
+    ("spawn valve0 t press", &["await t"]),
+    ("set set flow 600", &["guard flow"]),
+    ("spawn spawn presser press 5", &["await presser"]),
+    ("let flow 5", &["guard flow"]),
+    ("sett a b", &["guard a", "await b"]),
+    ("1: set b 2", &["guard b"]),
+    ("guard valve9 set b 2", &["guard b"]),
+    ("guard true; set b 2", &["guard b"]),
+];
+
+/// Such a line anywhere in a text is told alone.
+#[test]
+fn what_a_line_at_fault_names_is_known() {
+    for (harmed, users) in GIVING {
+        for user in *users {
+            for lines in [[*harmed, user], [user, harmed]] {
+                let [one, other] = lines;
+                let text = format!("variable p 9\nprocedure main\n  {one}\n  {other}\nprocedure press\n  skip\n");
+                let place = if one == *harmed { ":3:" } else { ":4:" };
+                let faults = told(&text);
+                assert!(!faults.is_empty(), "{text}");
+                assert!(faults.iter().all(|fault| fault.starts_with(place)), "{text}: {faults:#?}");
+            }
+        }
+    }
+}
+
+#[test]
+fn a_header_at_fault_is_told_alone() {
+    let callers = "procedure first\n  spawn x look 1\n  await x\n";
+    for header in ["let look depth", "def look depth:", "procedur look depth", "look depth", "procedure look depth {"] {
+        let body = "  set valve0 depth\n  if depth < parameter\n    set depth 5\n  guard depth\n";
+        for text in [format!("{callers}{header}\n{body}"), format!("{header}\n{body}{callers}")] {
+            let place = format!(":{}:", 1 + text.lines().position(|line| line == header).unwrap());
+            let faults = told(&text);
+            assert_eq!((faults.len(), faults[0].starts_with(&place)), (1, true), "{text}: {faults:#?}");
+        }
+    }
+    for sign in [";", ",", ""] {
+        for (declared, second) in
+            [("variable sensors 9", "variable level 10"), ("variable sensors 9", "procedure look p")]
+        {
+            let header = format!("{declared}{sign} {second}");
+            let body = "  set valve0 sensors\n  if sensors < parameter\n    set valve1 2\n";
+            let text = format!("procedure main q\n  set q 1\n{header}\n{body}  await sensors\n");
+            let faults = told(&text);
+            assert_eq!((faults.len(), faults[0].starts_with(":3:")), (1, true), "{text}: {faults:#?}");
+        }
+    }
+}
+
+/// What is misspelt elsewhere is told beside a line at fault: in what was read of it, and where it does not stand in it.
+#[test]
+fn a_line_at_fault_hides_no_other() {
+    let elsewhere = ":4:9: there is no variable \"presure\"";
+    for (harmed, users) in GIVING {
+        let text =
+            format!("variable p 9\nprocedure main\n  {harmed}\n  guard presure\n  {}\nprocedure press", users[0]);
+        let faults = told(&text);
+        assert!(faults.iter().any(|fault| fault.starts_with(elsewhere)), "{text}: {faults:#?}");
+    }
+    for (line, column) in
+        [("set a presure %", 9), ("if presure:", 6), ("guard 1 < presure; skip", 13), ("await presure 5", 9)]
+    {
+        let text = format!("procedure main\n  {line}\n  guard presure\n  await a\n  set a 1");
+        let faults = told(&text);
+        let due = format!(":2:{column}: there is no variable \"presure\"");
+        assert_eq!((faults.len(), faults[0].starts_with(&due)), (2, true), "{text}: {faults:#?}");
+    }
+    // What is wrong with a name whatever it means, and two spawns that would excuse each other.
+    let faults = told("procedure main\n  skip; set valve9 1\n  set valve9 2");
+    assert_eq!((faults.len(), faults[1].starts_with(":3:7: there is no \"valve9\"")), (2, true), "{faults:#?}");
+    let faults = told("procedure main\n  spawn main press 5\n  spawn press main 5\nprocedure press");
+    assert_eq!(faults.len(), 2, "{faults:#?}");
+}
+
 /// Where a line has other spaces before it, it or the next one with those that are due is told, and no more.
 #[test]
 fn a_wrong_indentation_is_told_once() {
