@@ -1,6 +1,6 @@
 //! The tokens of a line of the readable notation.
 
-use crate::source::{Fault, Position};
+use crate::source::{code, is_blank, is_plain, Fault, Position};
 use crate::words::quoted;
 
 /// The signs of the notation.
@@ -143,7 +143,7 @@ fn token(first: char, rest: &str) -> Token<'_> {
 }
 
 fn is_part(c: char) -> bool {
-    c.is_alphabetic() || c.is_ascii_digit() || c == '_'
+    (c.is_alphabetic() && !is_blank(c)) || c.is_ascii_digit() || c == '_'
 }
 
 /// What is wrong with a sign or character without a meaning.
@@ -151,9 +151,9 @@ fn stray(text: &str) -> String {
     if let Some((_, sentence)) = REFUSED.iter().find(|(sign, _)| *sign == text) {
         return sentence.to_string();
     }
-    let hidden = text.chars().find(|c| c.is_control() || c.is_whitespace());
-    match hidden {
-        Some(c) => format!("the character {} cannot stand in a recipe", c.escape_unicode()),
+    match text.chars().find(|c| !is_plain(*c)) {
+        Some(c @ '\r') => format!("the character {} cannot stand in a line: lines end with LF or CR LF", code(c)),
+        Some(c) => format!("the character {} cannot stand in a recipe", code(c)),
         None => format!("the character \"{text}\" has no meaning here"),
     }
 }
@@ -281,14 +281,14 @@ mod tests {
 
     #[test]
     fn stray_characters_are_told() {
-        let fault = |text| {
-            let lines = lines(text);
-            Cursor::new(&lines[0]).finish().unwrap_err()
-        };
+        let fault = |text: &str| Cursor::new(&lines(text)[0]).finish().unwrap_err();
         assert!(fault("= b").sentence.contains("=="));
         assert!(fault("€").sentence.contains('€'));
-        assert!(fault("\u{1}").sentence.contains("u{1}"));
-        assert!(fault("\u{a0}a").sentence.contains("u{a0}"));
+        for hidden in ["\u{1}", "\r", "\u{a0}", "\u{ad}", "\u{301}", "\u{200b}", "\u{202e}", "\u{3164}", "\u{feff}"] {
+            let shown = hidden.chars().map(code).collect::<String>();
+            let sentence = fault(&format!("{hidden}a")).sentence;
+            assert!(sentence.contains(&shown) && sentence.is_ascii(), "{sentence}");
+        }
         assert!(REFUSED.iter().all(|(sign, _)| fault(sign).sentence.contains(sign)));
         assert_eq!(lines("a\n \tset")[1].tab, Some(Position { line: 2, column: 2 }));
     }

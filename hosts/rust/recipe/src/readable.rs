@@ -175,7 +175,7 @@ impl<'a> Assembler<'a> {
         let Some(height) = DEPTH.checked_sub(self.bodies.depth() + 1) else {
             return self.bodies.too_deep(from);
         };
-        let expression = expression.within(height)?;
+        let expression = expression.within(height, record.kind)?;
         let span = u16::try_from(expression.size()).unwrap_or(u16::MAX);
         self.push(Record { span, ..record }, at, Some(expression))
     }

@@ -144,6 +144,46 @@ fn misspelt_procedures_and_statements_are_told_with_the_nearest() {
     }
 }
 
+/// A name that means something else is told at its first place alone.
+#[test]
+fn a_misused_name_is_told_once() {
+    for (line, column, part) in [
+        ("set level 1", 7, "\"level\" is the parameter of another procedure"),
+        ("guard 1 + level", 13, "\"level\" is the parameter of another procedure"),
+        ("await press", 9, "\"press\" is the name of a procedure, and a variable is due here"),
+        ("spawn press press 5", 9, "\"press\" is the name of a procedure, and a variable is due here"),
+        ("spawn x sensor 5", 11, "\"sensor\" is the name of a variable, and a procedure is due here"),
+        ("spawn x level 5", 11, "\"level\" is the name of the parameter of a procedure, and a procedure is due here"),
+        ("if valve9", 6, "there is no \"valve9\": the valves are valve0 to valve7"),
+        ("set valve9 1", 7, "there is no \"valve9\": the valves are valve0 to valve7"),
+        ("set valve0 parameter", 14, "the parameter of this procedure has the name \"own\""),
+    ] {
+        let lines = format!("  {line}\n").repeat(25);
+        let text = format!("variable sensor 9\nprocedure main own\n{lines}  guard missing\nprocedure press level\n");
+        let faults = told(&text);
+        assert_eq!(faults.len(), 2, "{line}: {faults:#?}");
+        assert_eq!(faults[0], format!(":3:{column}: {part}"));
+        assert!(faults[1].starts_with(":28:9: there is no variable \"missing\""), "{faults:#?}");
+    }
+    let headers: String = (0..25).map(|number| format!("procedure p{number} sensor\n  guard sensor\n")).collect();
+    let faults = told(&format!("variable sensor 9\n{headers}"));
+    assert_eq!(faults, [":2:14: \"sensor\" is already the name of a variable"]);
+}
+
+#[test]
+fn main_is_the_first_procedure_and_there_once() {
+    let first = "the first procedure is the main one: \"main\" must stand before the others";
+    let twice = "\"main\" is already the name of a procedure";
+    for (text, due) in [
+        ("procedure main\nprocedure main", &[format!(":2:11: {twice}")][..]),
+        ("procedure main\nprocedure a\nprocedure main", &[format!(":3:11: {twice}")]),
+        ("procedure a\nprocedure main", &[format!(":2:11: {first}")]),
+        ("procedure a\nprocedure main\nprocedure main", &[format!(":2:11: {first}"), format!(":3:11: {twice}")]),
+    ] {
+        assert_eq!(told(text), due, "{text}");
+    }
+}
+
 #[test]
 fn listings_have_no_warnings() {
     let mut generator = Generator::new(7);
@@ -723,6 +763,93 @@ fn other_nesting_is_refused_where_it_gets_too_deep() {
     assert!(assemble(&within_ifs(15, "skip")).is_ok());
     assert!(assemble(&within_ifs(12, "guard 1 and 2 and 3 and 4")).is_ok());
     assert!(told(&within_ifs(12, "guard 1 and 2 and 3 and 4 and 5"))[0].contains("at this operator"));
+}
+
+/// What is set before a guard or while is not worked out anew at each test.
+#[test]
+fn what_to_do_where_it_is_too_deep_suits_the_statement() {
+    let sum = vec!["1"; 17].join(" + ");
+    let nots = format!("{}1", "not ".repeat(17));
+    for expression in [&sum, &nots] {
+        for (statement, parts, wrong) in [
+            ("guard", &["parentheses", "would not be worked out anew"][..], "or set a part"),
+            ("while", &["parentheses", "set it again in the body"], "statement before"),
+            ("if", &["parentheses", "in a statement before"], "again"),
+            ("set valve0", &["parentheses", "in a statement before"], "again"),
+            ("spawn x main", &["parentheses", "in a statement before"], "again"),
+        ] {
+            let faults = told(&within_ifs(0, &format!("{statement} {expression}")));
+            assert_eq!((faults.len(), faults[0].contains("the depth is over 16 at this")), (1, true), "{faults:?}");
+            assert!(parts.iter().all(|part| faults[0].contains(part)), "{statement}: {faults:?}");
+            assert!(!faults[0].contains(wrong), "{statement}: {faults:?}");
+        }
+    }
+}
+
+#[test]
+fn parentheses_too_many_are_to_be_left_out() {
+    let within = |count: usize| format!("set valve0 {}1{}", "(".repeat(count), ")".repeat(count));
+    assert!(assemble(&within_ifs(0, &within(100))).is_ok());
+    let faults = told(&within_ifs(0, &within(101)));
+    assert_eq!(faults, [":2:114: the expression is nested over 100 deep: leave out parentheses"]);
+}
+
+// Characters and files.
+
+#[test]
+fn characters_that_are_not_seen_are_told_by_their_codes() {
+    for (hidden, code) in [
+        ("\u{1}", "U+0001"),
+        ("\u{a0}", "U+00A0"),
+        ("\u{ad}", "U+00AD"),
+        ("\u{200b}", "U+200B"),
+        ("\u{202e}", "U+202E"),
+        ("\u{feff}", "U+FEFF"),
+        ("\u{3164}", "U+3164"),
+    ] {
+        for line in [
+            format!("{hidden}skip"),
+            format!("guard{hidden} 1"),
+            format!("guard 1 + {hidden}2"),
+            format!("set x{hidden} 1"),
+        ] {
+            let faults = placed(&format!("procedure main\n  {line}\n")).unwrap_err().show("", "");
+            assert_eq!((faults.lines().count(), faults.contains(code)), (1, true), "{line:?}: {faults}");
+            assert!(faults.is_ascii(), "{faults:?}");
+        }
+    }
+    assert!(told("procedure main\n  set x\u{20ac} 1")[0].contains('\u{20ac}'));
+}
+
+#[test]
+fn line_ends_of_cr_alone_are_told() {
+    let sentence = "the lines of this text end with CR: line ends of LF or CR LF are due";
+    for (text, column) in [
+        ("procedure main\r  set valve0 1\r", 15),
+        ("# a comment\rprocedure main\r  skip\r", 12),
+        ("1(0,1,0) # main\r2(0,0,0)", 16),
+    ] {
+        assert_eq!(told(text), [format!(":1:{column}: {sentence}")], "{text:?}");
+        assert!(assemble(&text.replace('\r', "\n")).is_ok());
+        assert_eq!(assemble(&text.replace('\r', "\r\n")), assemble(&text.replace('\r', "\n")));
+    }
+    let faults = told("procedure main\r\n  skip\r  skip\r\n");
+    assert_eq!(faults, [":2:7: the character U+000D cannot stand in a line: lines end with LF or CR LF"]);
+}
+
+#[test]
+fn a_file_that_is_no_text_is_told_by_its_kind() {
+    let d = directory("notation_kinds");
+    let table = assemble("procedure main\n  skip\n").unwrap();
+    fs::write(d.join("a.table"), &table).unwrap();
+    for arguments in [&["run", "a.table", "--save", "a.state"][..], &["timeline", "a.table", "-o", "a.svg"]] {
+        assert_eq!(status(&recipe(&d, arguments, b"")), 0);
+    }
+    for (file, kind) in [("a.table", "a table"), ("a.state", "a saved state"), ("a.svg", "a picture")] {
+        let output = recipe(&d, &["asm", file], b"");
+        let due = format!("{file}:1:1: this is {kind} and not text\n");
+        assert_eq!((status(&output), stdout(&output), stderr(&output)), (1, String::new(), due));
+    }
 }
 
 // Any text.
