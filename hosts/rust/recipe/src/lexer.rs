@@ -1,5 +1,7 @@
 //! The tokens of a line of the readable notation.
 
+use std::borrow::Cow;
+
 use crate::source::{code, is_blank, is_plain, Fault, Position};
 use crate::words::quoted;
 
@@ -53,7 +55,8 @@ pub enum Token<'a> {
     /// Begins with a digit; whether it is a number in range is told where it is used.
     Number(&'a str),
     Sign(&'a str),
-    /// A sign or character without a meaning, told where the line cannot go on with it.
+    /// A sign or character without a meaning, or a word with a character in it that does not show; told where the line
+    /// cannot go on with it.
     Stray(&'a str),
 }
 
@@ -61,6 +64,23 @@ impl<'a> Token<'a> {
     pub fn text(self) -> &'a str {
         match self {
             Token::Word(text) | Token::Number(text) | Token::Sign(text) | Token::Stray(text) => text,
+        }
+    }
+
+    /// The word that it is, or is meant to be.
+    fn word(self) -> Option<Cow<'a, str>> {
+        match self {
+            Token::Word(word) => Some(Cow::Borrowed(word)),
+            Token::Stray(text) if text.contains(is_part) => Some(Cow::Owned(text.replace(is_hidden, ""))),
+            _ => None,
+        }
+    }
+
+    /// How many characters stand before the one that it is told for.
+    fn before_fault(self) -> usize {
+        match self {
+            Token::Stray(text) => text.chars().position(is_hidden).unwrap_or_default(),
+            _ => 0,
         }
     }
 }
@@ -84,16 +104,13 @@ pub struct Line<'a> {
 }
 
 impl<'a> Line<'a> {
-    pub fn words(&self) -> impl Iterator<Item = &'a str> + '_ {
+    pub fn words(&self) -> impl Iterator<Item = Cow<'a, str>> + '_ {
         words(&self.lexemes)
     }
 }
 
-fn words<'a, 'l>(lexemes: &'l [Lexeme<'a>]) -> impl Iterator<Item = &'a str> + 'l {
-    lexemes.iter().filter_map(|lexeme| match lexeme.token {
-        Token::Word(word) => Some(word),
-        _ => None,
-    })
+fn words<'a, 'l>(lexemes: &'l [Lexeme<'a>]) -> impl Iterator<Item = Cow<'a, str>> + 'l {
+    lexemes.iter().filter_map(|lexeme| lexeme.token.word())
 }
 
 /// The lines of a text.
@@ -114,7 +131,7 @@ fn line(number: usize, code: &str) -> Line<'_> {
         let mut width = first.len_utf8();
         if !blank(first) {
             let token = token(first, rest);
-            lexemes.push(Lexeme { token, at: at(column) });
+            lexemes.push(Lexeme { token, at: at(column + token.before_fault()) });
             width = token.text().len();
         }
         let (done, left) = rest.split_at_checked(width).unwrap_or((rest, ""));
@@ -126,9 +143,13 @@ fn line(number: usize, code: &str) -> Line<'_> {
 
 fn token(first: char, rest: &str) -> Token<'_> {
     let cut = |length: usize| rest.get(..length).unwrap_or(rest);
-    if is_part(first) {
-        let word = cut(rest.find(|c| !is_part(c)).unwrap_or(rest.len()));
-        return if first.is_ascii_digit() { Token::Number(word) } else { Token::Word(word) };
+    if is_part(first) || is_hidden(first) {
+        let word = cut(rest.find(|c| !is_part(c) && !is_hidden(c)).unwrap_or(rest.len()));
+        return match first {
+            _ if word.contains(is_hidden) => Token::Stray(word),
+            '0'..='9' => Token::Number(word),
+            _ => Token::Word(word),
+        };
     }
     let longest = |signs: &mut dyn Iterator<Item = &&str>| {
         signs.filter(|sign| rest.starts_with(**sign)).map(|sign| sign.len()).max().unwrap_or_default()
@@ -144,6 +165,11 @@ fn token(first: char, rest: &str) -> Token<'_> {
 
 fn is_part(c: char) -> bool {
     (c.is_alphabetic() && !is_blank(c)) || c.is_ascii_digit() || c == '_'
+}
+
+/// Whether a character does not show, so that a word with it looks like one without, or like another one.
+fn is_hidden(c: char) -> bool {
+    !is_part(c) && !is_plain(c) && !c.is_whitespace() && !c.is_control()
 }
 
 /// What is wrong with a sign or character without a meaning.
@@ -180,7 +206,7 @@ impl<'a, 'l> Cursor<'a, 'l> {
     }
 
     /// The words that are left.
-    pub fn words(&self) -> impl Iterator<Item = &'a str> + 'l {
+    pub fn words(&self) -> impl Iterator<Item = Cow<'a, str>> + 'l {
         words(self.lexemes)
     }
 
@@ -277,6 +303,10 @@ mod tests {
         assert_eq!(texts("***=-=--"), [stray("**"), stray("*="), stray("-="), sign("-"), sign("-")]);
         assert_eq!(texts("€\u{a0}a"), [stray("€"), stray("\u{a0}"), Token::Word("a")]);
         assert_eq!(texts("0x1F"), [Token::Number("0x1F")]);
+        assert_eq!(texts("a\u{ad}b\u{ad} \u{feff}1+"), [stray("a\u{ad}b\u{ad}"), stray("\u{feff}1"), sign("+")]);
+        let line = &lines("set a\u{ad}b\u{200b} c \u{ad}")[0];
+        assert_eq!(line.lexemes[1].at.column, 6);
+        assert_eq!(line.words().collect::<Vec<_>>(), ["set", "ab", "c"]);
     }
 
     #[test]

@@ -4,6 +4,7 @@
 //! parameters may bear the same name in several procedures. For the same reason a variable that is read must be set,
 //! spawned into or declared somewhere in the text.
 
+use std::borrow::Cow;
 use std::collections::{BTreeMap, BTreeSet};
 
 use crate::nearest::hint;
@@ -106,7 +107,7 @@ pub struct Names<'a> {
     /// Read or awaited.
     read: BTreeSet<&'a str>,
     /// Names in lines at fault, which may give them any meaning.
-    excused: BTreeSet<&'a str>,
+    excused: BTreeSet<Cow<'a, str>>,
     /// Told when all lines are read: a later one may excuse the name.
     misused: BTreeMap<(&'a str, Misuse), First<'a>>,
 }
@@ -174,7 +175,7 @@ impl<'a> Names<'a> {
     }
 
     /// Takes up the words of a line at fault, of which it is not known what they are.
-    pub fn excuse(&mut self, words: impl Iterator<Item = &'a str>) {
+    pub fn excuse(&mut self, words: impl Iterator<Item = Cow<'a, str>>) {
         self.excused.extend(words);
     }
 
@@ -288,7 +289,7 @@ impl<'a> Names<'a> {
 
     /// Tells the names that were not found or mean something else, each at its first place.
     pub fn tell_misused(&self, faults: &mut Faults) {
-        let told = |(name, misuse): &(&str, Misuse)| !(misuse.depends() && self.excused.contains(name));
+        let told = |(name, misuse): &(&str, Misuse)| !(misuse.depends() && self.excused.contains(*name));
         self.misused.iter().filter(|(key, _)| told(key)).for_each(|((name, misuse), (at, parameter))| {
             faults.add(*at, || self.sentence(name, *misuse, parameter));
         });
@@ -449,7 +450,7 @@ mod tests {
         }
         names.procedure("a", AT);
         assert_eq!(names_told(&names), 4);
-        names.excuse(["a", "valve8"].into_iter());
+        names.excuse(["a", "valve8"].into_iter().map(Cow::Borrowed));
         assert_eq!(names_told(&names), 2);
     }
 }

@@ -148,7 +148,7 @@ impl<'a> Assembler<'a> {
         let name = self.names.variable(word, word_at)?;
         if self.names.is_procedure(word) {
             // The names may be the wrong way round. Procedures stay what they are, so that one such line is told.
-            let others: Vec<&str> = cursor.words().filter(|word| !self.names.is_procedure(word)).collect();
+            let others: Vec<_> = cursor.words().filter(|word| !self.names.is_procedure(word)).collect();
             self.names.excuse(others.into_iter());
             return Ok(());
         }

@@ -821,6 +821,33 @@ fn characters_that_are_not_seen_are_told_by_their_codes() {
     assert!(told("procedure main\n  set x\u{20ac} 1")[0].contains('\u{20ac}'));
 }
 
+/// A word with such a character is the one that it looks like.
+#[test]
+fn a_word_with_a_hidden_character_is_told_alone() {
+    let text = "\
+variable sensor 9
+procedure main
+  set pressure 5
+  if sensor < pressure
+    spawn presser pressing pressure
+  await presser
+procedure pressing target
+  set valve0 target
+";
+    assert_eq!((told(text), warned(text)), (vec![], vec![]));
+    let lines: Vec<&str> = text.lines().collect();
+    for (index, line) in lines.iter().enumerate() {
+        let inside = line.char_indices().filter(|(at, c)| *at > 0 && c.is_alphabetic() && !line[..*at].ends_with(' '));
+        for (at, _) in inside {
+            let harmed = format!("{}\u{200b}{}", &line[..at], &line[at..]);
+            let mut lines = lines.clone();
+            lines[index] = &harmed;
+            let due = format!(":{}:{}: the character U+200B cannot stand in a recipe", index + 1, at + 1);
+            assert_eq!(told(&lines.join("\n")), [due], "{harmed:?}");
+        }
+    }
+}
+
 #[test]
 fn line_ends_of_cr_alone_are_told() {
     let sentence = "the lines of this text end with CR: line ends of LF or CR LF are due";
