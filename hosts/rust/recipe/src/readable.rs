@@ -79,8 +79,8 @@ impl<'a> Assembler<'a> {
     /// Begins the body that a line has or may have.
     fn bear(&mut self, line: &Line, keyword: Option<&str>, faulty: bool, header: usize) {
         let is_header = keyword == Some("procedure");
-        if faulty && line.indent == 0 && !is_header {
-            // It may have been a header.
+        if faulty && !is_header && (line.indent == 0 || line.words().any(|word| word == "procedure")) {
+            // It may have been a header, or hold one.
             self.names.enter(ANY_PARAMETER);
         }
         if line.tab.is_none() && (matches!(keyword, Some("if" | "while")) || (faulty && !is_header)) {

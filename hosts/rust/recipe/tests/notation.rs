@@ -548,6 +548,31 @@ fn what_a_line_at_fault_names_is_known() {
     }
 }
 
+/// Two lines in one, or with what begins a line written twice.
+#[test]
+fn lines_that_are_joined_are_told_alone() {
+    for text in recipes().iter().map(String::as_str).chain([DEPENDENT]) {
+        let lines: Vec<&str> = text.lines().map(|line| line.split('#').next().unwrap().trim_end()).collect();
+        for (index, line) in lines.iter().enumerate().filter(|(_, line)| !line.is_empty()) {
+            let indent = &line[..line.len() - line.trim_start().len()];
+            let (word, rest) = line.trim_start().split_once(' ').unwrap_or((line.trim_start(), ""));
+            let next = lines.get(index + 1).map_or("", |next| next.trim_start());
+            let joined = ["; ", ", ", " ", ": ", " { "].map(|between| format!("{line}{between}{next}"));
+            let joined = joined.into_iter().map(|joined| (joined, 2)).filter(|_| !next.is_empty());
+            let doubled =
+                [word, "let", "def", "if", "await"].map(|other| (format!("{indent}{other} {word} {rest}"), 1));
+            for (harmed, count) in joined.chain(doubled) {
+                let mut lines = lines.clone();
+                lines.splice(index..index + count, [&*harmed]);
+                let faults = told(&lines.join("\n"));
+                let place = format!(":{}:", index + 1);
+                assert!(!faults.is_empty(), "{harmed}");
+                assert!(faults.iter().all(|fault| fault.starts_with(&place)), "{harmed:?}: {faults:#?}\n{text}");
+            }
+        }
+    }
+}
+
 #[test]
 fn a_header_at_fault_is_told_alone() {
     let callers = "procedure first\n  spawn x look 1\n  await x\n";
