@@ -26,6 +26,11 @@ fn meant(word: &str) -> Start {
     Start { keyword: own.or_else(|| nearest(word, keywords())), faulty: own.is_none() }
 }
 
+/// Whether a statement gives no name a meaning: what is misspelt so is still held to the statement's form.
+pub fn reads(keyword: &str) -> bool {
+    matches!(keyword, "if" | "while" | "guard" | "await")
+}
+
 /// All words that a line begins with.
 pub fn keywords() -> impl Iterator<Item = &'static str> {
     STATEMENTS.into_iter().chain(HEADERS)
@@ -40,7 +45,7 @@ pub fn outline<'a>(lines: &[Line<'a>], faults: &mut Faults) -> (Names<'a>, Vec<S
         let mut start = cursor.word("").map_or(Start { keyword: None, faulty: true }, |(word, _)| meant(word));
         let entered = if start.faulty { Ok(()) } else { entry(start.keyword, &mut cursor, &mut names) };
         start.faulty |= entered.is_err();
-        if start.faulty {
+        if start.faulty && !start.keyword.is_some_and(reads) {
             // What its words were meant to be is open.
             names.excuse(line.words());
         }

@@ -9,7 +9,7 @@ use crate::expression;
 use crate::lexer::{lines, Cursor, Line};
 use crate::names::{Names, ANY_PARAMETER, DEFAULT_PARAMETER};
 use crate::nearest::question;
-use crate::outline::{keywords, outline, Start, STATEMENTS};
+use crate::outline::{keywords, outline, reads, Start, STATEMENTS};
 use crate::source::{Fault, Faults, Position};
 use crate::table::{kind, Assembled, Placed, Record, DEPTH, FIRST_SHARED, RECORDS};
 use crate::tree::Tree;
@@ -60,12 +60,14 @@ impl<'a> Assembler<'a> {
         let stands = self.stand(line, keyword, at);
         let read = match keyword {
             Some("procedure") => self.procedure(start, &mut cursor, at),
-            Some(keyword) if !start.faulty => self.statement(keyword, at, &mut cursor),
+            Some(keyword) if !start.faulty || reads(keyword) => self.statement(keyword, at, &mut cursor),
             _ => Ok(()),
         };
-        if read.is_err() {
+        match read {
+            Err(_) if start.faulty => self.names.excuse(line.words()),
             // They may be of a statement that should have a line of its own.
-            self.names.excuse(cursor.words());
+            Err(_) => self.names.excuse(cursor.words()),
+            Ok(()) => {}
         }
         let faulty = start.faulty || read.is_err();
         match first.err().or_else(|| misspelt(line, keyword)) {

@@ -529,6 +529,9 @@ const GIVING: &[(&str, &[&str])] = &[
     ("1: set b 2", &["guard b"]),
     ("guard valve9 set b 2", &["guard b"]),
     ("guard true; set b 2", &["guard b"]),
+    ("iff 1: set b 2", &["guard b"]),
+    ("Guard b = 2", &["guard b"]),
+    ("awit t press 5", &["await t"]),
 ];
 
 /// Such a line anywhere in a text is told alone.
@@ -615,6 +618,9 @@ fn a_line_at_fault_hides_no_other() {
         let due = format!(":2:{column}: there is no variable \"presure\"");
         assert_eq!((faults.len(), faults[0].starts_with(&due)), (2, true), "{text}: {faults:#?}");
     }
+    let faults = told("procedure main\n  iff 1 < presure\n    skip\n  guard presure");
+    let due = ":2:11: there is no variable \"presure\"";
+    assert_eq!((faults.len(), faults[1].starts_with(due)), (2, true), "{faults:#?}");
     // What is wrong with a name whatever it means, and two spawns that would excuse each other.
     let faults = told("procedure main\n  skip; set valve9 1\n  set valve9 2");
     assert_eq!((faults.len(), faults[1].starts_with(":3:7: there is no \"valve9\"")), (2, true), "{faults:#?}");
