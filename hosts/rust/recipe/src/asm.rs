@@ -2,6 +2,7 @@
 
 use recipe_runner::{Refusal, State};
 
+use crate::content::Content;
 use crate::source::{Fault, Faults, Position};
 use crate::table::{encode, told, Assembled, Placed, Record, LACKING};
 use crate::{raw, readable};
@@ -14,14 +15,21 @@ pub fn text(bytes: &[u8]) -> Result<&str, Fault> {
     if bytes.len() > TEXT {
         return Err(Fault::new(Position::START, format!("the text is longer than {TEXT} bytes")));
     }
-    if bytes.first() == Some(&1) {
-        return Err(Fault::new(Position::START, "this is a table and not text"));
+    match Content::of(bytes) {
+        other @ (Content::State | Content::Table | Content::Picture) => return Err(no_text(other)),
+        // One that is cut short.
+        Content::Other if bytes.first() == Some(&1) => return Err(no_text(Content::Table)),
+        _ => {}
     }
     let text = std::str::from_utf8(bytes).map_err(|error| {
         let valid = bytes.get(..error.valid_up_to()).unwrap_or_default();
         Fault::new(end(&String::from_utf8_lossy(valid)), "this byte is not UTF-8 text")
     })?;
     Ok(text.strip_prefix('\u{feff}').unwrap_or(text))
+}
+
+fn no_text(content: Content) -> Fault {
+    Fault::new(Position::START, format!("this is {content} and not text"))
 }
 
 /// The position behind the last character.
@@ -38,6 +46,7 @@ pub fn assemble(text: &str) -> Result<Vec<u8>, Faults> {
 
 /// The records of that table and the warnings. The library is asked where the text has no fault of its own.
 pub fn placed(text: &str) -> Result<Assembled, Faults> {
+    line_ends(text)?;
     let assembled = if raw::is_raw(text) {
         Assembled { records: raw::parse(text)?, ..Assembled::default() }
     } else {
@@ -46,6 +55,16 @@ pub fn placed(text: &str) -> Result<Assembled, Faults> {
     match State::start(&encode(&assembled.records)) {
         Ok(_) => Ok(assembled),
         Err(refusal) => Err(located(refusal, &assembled.records).into()),
+    }
+}
+
+/// Holds a text to line ends that are read as such: without them a comment would go on to the text's end.
+fn line_ends(text: &str) -> Result<(), Fault> {
+    match text.trim_end().split_once('\r') {
+        Some((before, _)) if !text.contains('\n') => {
+            Err(Fault::new(end(before), "the lines of this text end with CR: line ends of LF or CR LF are due"))
+        }
+        _ => Ok(()),
     }
 }
 
@@ -76,6 +95,16 @@ mod tests {
     fn bytes_that_are_no_text_are_told() {
         assert_eq!(text(b"\xef\xbb\xbfskip"), Ok("skip"));
         assert_eq!(text(b"one\ntw\xff").unwrap_err().at, Position { line: 2, column: 3 });
-        assert!(text(&[1, 0, 0, 0, 0, 0, 0, 0]).unwrap_err().sentence.contains("table"));
+        let table = [1, 0, 1, 0, 0, 0, 0, 0, 2, 0, 0, 0, 0, 0, 0, 0];
+        for (bytes, kind) in [
+            (&table[..], "a table"),
+            (&table[..13], "a table"),
+            (State::start(&table).unwrap().as_bytes(), "a saved state"),
+            (b"recipe state 01\n\xff", "a saved state"),
+            (b"<svg xmlns", "a picture"),
+            (b"<?xml version", "a picture"),
+        ] {
+            assert_eq!(text(bytes), Err(Fault::new(Position::START, format!("this is {kind} and not text"))));
+        }
     }
 }

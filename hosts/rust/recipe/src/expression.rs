@@ -154,8 +154,9 @@ impl<'a> Reader<'_, 'a, '_, '_> {
     }
 
     fn nested(&mut self, least: u8) -> Result<Tree, Fault> {
-        if self.nesting == NESTING {
-            return Err(Fault::new(self.cursor.at(), format!("the expression is nested over {NESTING} deep")));
+        if self.nesting > NESTING {
+            let sentence = format!("the expression is nested over {NESTING} deep: leave out parentheses");
+            return Err(Fault::new(self.cursor.at(), sentence));
         }
         self.nesting += 1;
         let tree = self.prefix(least);
@@ -338,6 +339,9 @@ mod tests {
 
     #[test]
     fn any_nesting_and_length_is_survived() {
+        let within = |count: usize| format!("{}1{}", "(".repeat(count), ")".repeat(count));
+        assert_eq!(raw(&within(NESTING)), "9(0,0,1)");
+        assert!(fault(&within(NESTING + 1)).1.contains("nested over 100 deep: leave out parentheses"));
         assert!(fault(&"(".repeat(100_000)).1.contains("nested"));
         assert!(fault(&"-".repeat(100_000)).1.contains("nested"));
         assert!(fault(&"not ".repeat(100_000)).1.contains("nested"));

@@ -1,6 +1,8 @@
 //! The tokens of a line of the readable notation.
 
-use crate::source::{Fault, Position};
+use std::borrow::Cow;
+
+use crate::source::{code, is_blank, is_plain, Fault, Position};
 use crate::words::quoted;
 
 /// The signs of the notation.
@@ -53,7 +55,8 @@ pub enum Token<'a> {
     /// Begins with a digit; whether it is a number in range is told where it is used.
     Number(&'a str),
     Sign(&'a str),
-    /// A sign or character without a meaning, told where the line cannot go on with it.
+    /// A sign or character without a meaning, or a word with a character in it that does not show; told where the line
+    /// cannot go on with it.
     Stray(&'a str),
 }
 
@@ -61,6 +64,23 @@ impl<'a> Token<'a> {
     pub fn text(self) -> &'a str {
         match self {
             Token::Word(text) | Token::Number(text) | Token::Sign(text) | Token::Stray(text) => text,
+        }
+    }
+
+    /// The word that it is, or is meant to be.
+    fn word(self) -> Option<Cow<'a, str>> {
+        match self {
+            Token::Word(word) => Some(Cow::Borrowed(word)),
+            Token::Stray(text) if text.contains(is_part) => Some(Cow::Owned(text.replace(is_hidden, ""))),
+            _ => None,
+        }
+    }
+
+    /// How many characters stand before the one that it is told for.
+    fn before_fault(self) -> usize {
+        match self {
+            Token::Stray(text) => text.chars().position(is_hidden).unwrap_or_default(),
+            _ => 0,
         }
     }
 }
@@ -84,12 +104,13 @@ pub struct Line<'a> {
 }
 
 impl<'a> Line<'a> {
-    pub fn words(&self) -> impl Iterator<Item = &'a str> + '_ {
-        self.lexemes.iter().filter_map(|lexeme| match lexeme.token {
-            Token::Word(word) => Some(word),
-            _ => None,
-        })
+    pub fn words(&self) -> impl Iterator<Item = Cow<'a, str>> + '_ {
+        words(&self.lexemes)
     }
+}
+
+fn words<'a, 'l>(lexemes: &'l [Lexeme<'a>]) -> impl Iterator<Item = Cow<'a, str>> + 'l {
+    lexemes.iter().filter_map(|lexeme| lexeme.token.word())
 }
 
 /// The lines of a text.
@@ -110,7 +131,7 @@ fn line(number: usize, code: &str) -> Line<'_> {
         let mut width = first.len_utf8();
         if !blank(first) {
             let token = token(first, rest);
-            lexemes.push(Lexeme { token, at: at(column) });
+            lexemes.push(Lexeme { token, at: at(column + token.before_fault()) });
             width = token.text().len();
         }
         let (done, left) = rest.split_at_checked(width).unwrap_or((rest, ""));
@@ -122,9 +143,13 @@ fn line(number: usize, code: &str) -> Line<'_> {
 
 fn token(first: char, rest: &str) -> Token<'_> {
     let cut = |length: usize| rest.get(..length).unwrap_or(rest);
-    if is_part(first) {
-        let word = cut(rest.find(|c| !is_part(c)).unwrap_or(rest.len()));
-        return if first.is_ascii_digit() { Token::Number(word) } else { Token::Word(word) };
+    if is_part(first) || is_hidden(first) {
+        let word = cut(rest.find(|c| !is_part(c) && !is_hidden(c)).unwrap_or(rest.len()));
+        return match first {
+            _ if word.contains(is_hidden) => Token::Stray(word),
+            '0'..='9' => Token::Number(word),
+            _ => Token::Word(word),
+        };
     }
     let longest = |signs: &mut dyn Iterator<Item = &&str>| {
         signs.filter(|sign| rest.starts_with(**sign)).map(|sign| sign.len()).max().unwrap_or_default()
@@ -139,7 +164,12 @@ fn token(first: char, rest: &str) -> Token<'_> {
 }
 
 fn is_part(c: char) -> bool {
-    c.is_alphabetic() || c.is_ascii_digit() || c == '_'
+    (c.is_alphabetic() && !is_blank(c)) || c.is_ascii_digit() || c == '_'
+}
+
+/// Whether a character does not show, so that a word with it looks like one without, or like another one.
+fn is_hidden(c: char) -> bool {
+    !is_part(c) && !is_plain(c) && !c.is_whitespace() && !c.is_control()
 }
 
 /// What is wrong with a sign or character without a meaning.
@@ -147,15 +177,15 @@ fn stray(text: &str) -> String {
     if let Some((_, sentence)) = REFUSED.iter().find(|(sign, _)| *sign == text) {
         return sentence.to_string();
     }
-    let hidden = text.chars().find(|c| c.is_control() || c.is_whitespace());
-    match hidden {
-        Some(c) => format!("the character {} cannot stand in a recipe", c.escape_unicode()),
+    match text.chars().find(|c| !is_plain(*c)) {
+        Some(c @ '\r') => format!("the character {} cannot stand in a line: lines end with LF or CR LF", code(c)),
+        Some(c) => format!("the character {} cannot stand in a recipe", code(c)),
         None => format!("the character \"{text}\" has no meaning here"),
     }
 }
 
 /// Walks over the tokens of a line.
-#[derive(Debug)]
+#[derive(Clone, Debug)]
 pub struct Cursor<'a, 'l> {
     lexemes: &'l [Lexeme<'a>],
     end: Position,
@@ -173,6 +203,11 @@ impl<'a, 'l> Cursor<'a, 'l> {
     /// The position of the next token, or the line's end.
     pub fn at(&self) -> Position {
         self.peek().map_or(self.end, |lexeme| lexeme.at)
+    }
+
+    /// The words that are left.
+    pub fn words(&self) -> impl Iterator<Item = Cow<'a, str>> + 'l {
+        words(self.lexemes)
     }
 
     pub fn take(&mut self) -> Option<Lexeme<'a>> {
@@ -268,18 +303,22 @@ mod tests {
         assert_eq!(texts("***=-=--"), [stray("**"), stray("*="), stray("-="), sign("-"), sign("-")]);
         assert_eq!(texts("€\u{a0}a"), [stray("€"), stray("\u{a0}"), Token::Word("a")]);
         assert_eq!(texts("0x1F"), [Token::Number("0x1F")]);
+        assert_eq!(texts("a\u{ad}b\u{ad} \u{feff}1+"), [stray("a\u{ad}b\u{ad}"), stray("\u{feff}1"), sign("+")]);
+        let line = &lines("set a\u{ad}b\u{200b} c \u{ad}")[0];
+        assert_eq!(line.lexemes[1].at.column, 6);
+        assert_eq!(line.words().collect::<Vec<_>>(), ["set", "ab", "c"]);
     }
 
     #[test]
     fn stray_characters_are_told() {
-        let fault = |text| {
-            let lines = lines(text);
-            Cursor::new(&lines[0]).finish().unwrap_err()
-        };
+        let fault = |text: &str| Cursor::new(&lines(text)[0]).finish().unwrap_err();
         assert!(fault("= b").sentence.contains("=="));
         assert!(fault("€").sentence.contains('€'));
-        assert!(fault("\u{1}").sentence.contains("u{1}"));
-        assert!(fault("\u{a0}a").sentence.contains("u{a0}"));
+        for hidden in ["\u{1}", "\r", "\u{a0}", "\u{ad}", "\u{301}", "\u{200b}", "\u{202e}", "\u{3164}", "\u{feff}"] {
+            let shown = hidden.chars().map(code).collect::<String>();
+            let sentence = fault(&format!("{hidden}a")).sentence;
+            assert!(sentence.contains(&shown) && sentence.is_ascii(), "{sentence}");
+        }
         assert!(REFUSED.iter().all(|(sign, _)| fault(sign).sentence.contains(sign)));
         assert_eq!(lines("a\n \tset")[1].tab, Some(Position { line: 2, column: 2 }));
     }

@@ -4,6 +4,7 @@
 //! parameters may bear the same name in several procedures. For the same reason a variable that is read must be set,
 //! spawned into or declared somewhere in the text.
 
+use std::borrow::Cow;
 use std::collections::{BTreeMap, BTreeSet};
 
 use crate::nearest::hint;
@@ -44,7 +45,7 @@ const RESERVED: [&str; 18] = [
     DEFAULT_PARAMETER,
 ];
 
-#[derive(Clone, Copy, Debug, PartialEq, Eq)]
+#[derive(Clone, Copy, Debug, PartialEq, Eq, PartialOrd, Ord)]
 enum Meaning {
     Procedure(usize),
     Variable(u8),
@@ -58,6 +59,32 @@ impl Meaning {
             Meaning::Variable(_) => "a variable",
             Meaning::Parameter => "the parameter of a procedure",
         }
+    }
+}
+
+/// What is wrong with the use of a name.
+#[derive(Clone, Copy, Debug, PartialEq, Eq, PartialOrd, Ord)]
+enum Misuse {
+    /// Read and nowhere set.
+    NoVariable,
+    NoProcedure,
+    /// A procedure where a variable is due.
+    Procedure,
+    /// Something else where a procedure is due.
+    NotSpawnable(Meaning),
+    OtherParameter,
+    /// A parameter's name that already has another meaning.
+    Taken(Meaning),
+    /// "parameter" where the parameter has a name.
+    OwnParameter,
+    NoValve,
+    TooMany,
+}
+
+impl Misuse {
+    /// Whether another line may give the name a meaning with which this is none.
+    fn depends(self) -> bool {
+        !matches!(self, Misuse::OwnParameter | Misuse::NoValve | Misuse::TooMany)
     }
 }
 
@@ -80,10 +107,9 @@ pub struct Names<'a> {
     /// Read or awaited.
     read: BTreeSet<&'a str>,
     /// Names in lines at fault, which may give them any meaning.
-    excused: BTreeSet<&'a str>,
-    /// Variables that are read and nowhere set.
-    unknown: BTreeMap<&'a str, First<'a>>,
-    unknown_procedures: BTreeMap<&'a str, Position>,
+    excused: BTreeSet<Cow<'a, str>>,
+    /// Told when all lines are read: a later one may excuse the name.
+    misused: BTreeMap<(&'a str, Misuse), First<'a>>,
 }
 
 impl<'a> Names<'a> {
@@ -99,8 +125,7 @@ impl<'a> Names<'a> {
             spawned: BTreeSet::new(),
             read: BTreeSet::new(),
             excused: BTreeSet::new(),
-            unknown: BTreeMap::new(),
-            unknown_procedures: BTreeMap::new(),
+            misused: BTreeMap::new(),
         }
     }
 
@@ -108,22 +133,25 @@ impl<'a> Names<'a> {
     pub fn add_procedure(&mut self, name: &'a str, at: Position) -> Result<(), Fault> {
         let number = self.procedures;
         self.procedures += 1;
+        self.claim(name, Meaning::Procedure(number), at)?;
         if name == "main" && number > 0 {
             return Err(Fault::new(at, "the first procedure is the main one: \"main\" must stand before the others"));
         }
-        self.claim(name, Meaning::Procedure(number), at)?;
         if number <= LAST_SPAWNED {
             self.spawnable.push(name);
         }
         Ok(())
     }
 
-    /// Takes up a parameter's name.
+    /// Takes up a parameter's name. Another meaning of it is told at the end.
     pub fn add_parameter(&mut self, name: &'a str, at: Position) -> Result<(), Fault> {
-        if name == DEFAULT_PARAMETER {
-            return Ok(());
+        match self.meanings.get(name) {
+            _ if name == DEFAULT_PARAMETER => {}
+            None => self.claim(name, Meaning::Parameter, at)?,
+            Some(Meaning::Parameter) => {}
+            Some(other) => self.misuse(name, Misuse::Taken(*other), at),
         }
-        self.claim(name, Meaning::Parameter, at)
+        Ok(())
     }
 
     /// Takes up a declared variable.
@@ -140,12 +168,14 @@ impl<'a> Names<'a> {
     }
 
     /// Takes up that a spawn's number goes into a name somewhere in the text.
-    pub fn add_spawned(&mut self, name: &'a str) {
-        self.spawned.insert(name);
+    pub fn add_spawned(&mut self, name: &'a str, at: Position) {
+        if unreserved(name, at).is_ok() {
+            self.spawned.insert(name);
+        }
     }
 
     /// Takes up the words of a line at fault, of which it is not known what they are.
-    pub fn excuse(&mut self, words: impl Iterator<Item = &'a str>) {
+    pub fn excuse(&mut self, words: impl Iterator<Item = Cow<'a, str>>) {
         self.excused.extend(words);
     }
 
@@ -163,15 +193,16 @@ impl<'a> Names<'a> {
 
     fn claim(&mut self, name: &'a str, meaning: Meaning, at: Position) -> Result<(), Fault> {
         unreserved(name, at)?;
-        if valve(name, at)?.is_some() {
-            return Err(Fault::new(at, format!("{} is a valve and cannot get another meaning", quoted(name))));
+        match valve(name) {
+            None => {}
+            Some(Ok(_)) => {
+                return Err(Fault::new(at, format!("{} is a valve and cannot get another meaning", quoted(name))));
+            }
+            Some(Err(NoValve)) => return Err(Fault::new(at, no_valve(name))),
         }
         match self.meanings.insert(name, meaning) {
-            Some(before) if (before, meaning) != (Meaning::Parameter, Meaning::Parameter) => {
-                let words = before.words();
-                Err(Fault::new(at, format!("{} is already the name of {words}", quoted(name))))
-            }
-            _ => Ok(()),
+            Some(before) => Err(Fault::new(at, taken(name, before))),
+            None => Ok(()),
         }
     }
 
@@ -180,96 +211,116 @@ impl<'a> Names<'a> {
         self.parameter = parameter;
     }
 
+    /// Whether a name is a procedure's.
+    pub fn is_procedure(&self, name: &str) -> bool {
+        matches!(self.meanings.get(name), Some(Meaning::Procedure(_)))
+    }
+
     /// The number of a procedure that a spawn names. One that is not there is told at the end.
-    pub fn procedure(&mut self, name: &'a str, at: Position) -> Result<i32, Fault> {
-        match self.meanings.get(name) {
-            _ if self.excused.contains(name) => Ok(0),
-            Some(Meaning::Procedure(number)) if *number <= LAST_SPAWNED => Ok(*number as i32),
-            Some(Meaning::Procedure(number)) => {
-                let sentence = format!("{} is procedure {number}: only 0 to 255 can be spawned", quoted(name));
-                Err(Fault::new(at, sentence))
-            }
-            Some(other) => {
-                let words = other.words();
-                Err(Fault::new(at, format!("{} is the name of {words}, and a procedure is due here", quoted(name))))
-            }
-            None => {
-                self.unknown_procedures.entry(name).or_insert(at);
-                Ok(0)
-            }
-        }
+    pub fn procedure(&mut self, name: &'a str, at: Position) -> i32 {
+        let misuse = match self.meanings.get(name) {
+            Some(Meaning::Procedure(number)) if *number <= LAST_SPAWNED => return *number as i32,
+            Some(other) => Misuse::NotSpawnable(*other),
+            None => Misuse::NoProcedure,
+        };
+        self.misuse(name, misuse, at);
+        0
     }
 
     /// The number of a variable that is read or awaited. One that is set nowhere is told at the end.
     pub fn read(&mut self, name: &'a str, at: Position) -> Result<u8, Fault> {
         self.read.insert(name);
         let known = self.meanings.contains_key(name) || self.set.contains_key(name) || self.spawned.contains(name);
-        if known || self.excused.contains(name) || self.built_in(name, at)?.is_some() {
+        if known || self.built_in(name, at)?.is_some() {
             return self.variable(name, at);
         }
-        self.unknown.entry(name).or_insert((at, self.parameter));
+        self.misuse(name, Misuse::NoVariable, at);
         Ok(FIRST_SHARED)
     }
 
-    /// The number of a variable; one not met before gets the next that is free.
+    /// The number of a variable; one not met before gets the next that is free. A name of another meaning is told at
+    /// the end.
     pub fn variable(&mut self, name: &'a str, at: Position) -> Result<u8, Fault> {
         if let Some(number) = self.built_in(name, at)? {
             return Ok(number);
         }
-        match self.meanings.get(name) {
-            Some(Meaning::Variable(number)) => Ok(*number),
-            _ if self.excused.contains(name) => Ok(FIRST_SHARED),
-            Some(Meaning::Procedure(_)) => {
-                Err(Fault::new(at, format!("{} is the name of a procedure, and a variable is due here", quoted(name))))
-            }
-            Some(Meaning::Parameter) => {
-                Err(Fault::new(at, format!("{} is the parameter of another procedure", quoted(name))))
-            }
-            None => self.number(name, at),
-        }
+        let misuse = match self.meanings.get(name) {
+            Some(Meaning::Variable(number)) => return Ok(*number),
+            Some(Meaning::Procedure(_)) => Misuse::Procedure,
+            Some(Meaning::Parameter) => Misuse::OtherParameter,
+            None => return self.number(name, at),
+        };
+        self.misuse(name, misuse, at);
+        Ok(FIRST_SHARED)
     }
 
     /// The number of a parameter or valve, none for other names. Words of the notation are faults.
-    fn built_in(&self, name: &str, at: Position) -> Result<Option<u8>, Fault> {
+    fn built_in(&mut self, name: &'a str, at: Position) -> Result<Option<u8>, Fault> {
         let is_parameter = || name == DEFAULT_PARAMETER || self.meanings.get(name) == Some(&Meaning::Parameter);
         if name == self.parameter || (self.parameter == ANY_PARAMETER && is_parameter()) {
             return Ok(Some(PARAMETER));
         }
         if name == DEFAULT_PARAMETER {
-            let own = quoted(self.parameter);
-            return Err(Fault::new(at, format!("the parameter of this procedure has the name {own}")));
+            self.misuse(name, Misuse::OwnParameter, at);
+            return Ok(Some(PARAMETER));
         }
         unreserved(name, at)?;
-        valve(name, at)
+        Ok(valve(name).map(|valve| {
+            valve.unwrap_or_else(|NoValve| {
+                self.misuse(name, Misuse::NoValve, at);
+                FIRST_SHARED
+            })
+        }))
     }
 
     fn number(&mut self, name: &'a str, at: Position) -> Result<u8, Fault> {
         let free = (FIRST_SHARED..).zip(self.taken.iter().skip(usize::from(FIRST_SHARED)));
         let Some(number) = free.filter(|(_, slot)| slot.is_none()).map(|(number, _)| number).next() else {
-            let sentence =
-                format!("too many variables: no number is left for {} (there are 56, 8 to 63)", quoted(name));
-            // Told once of each name.
-            self.meanings.insert(name, Meaning::Variable(FIRST_SHARED));
-            return Err(Fault::new(at, sentence));
+            self.misuse(name, Misuse::TooMany, at);
+            return Ok(FIRST_SHARED);
         };
         self.give(name, number, at)?;
         Ok(number)
     }
 
-    /// Tells the names that were used and not found, each at its first place.
-    pub fn tell_unknown(&self, faults: &mut Faults) {
-        self.unknown.iter().for_each(|(name, (at, parameter))| {
-            faults.add(*at, || {
-                let hint = hint(name, self.variables().chain([*parameter]).chain(VALVES), DECLARE_WRITTEN);
-                format!("there is no variable {}: it is never set, spawned into or declared{hint}", quoted(name))
-            });
+    fn misuse(&mut self, name: &'a str, misuse: Misuse, at: Position) {
+        self.misused.entry((name, misuse)).or_insert((at, self.parameter));
+    }
+
+    /// Tells the names that were not found or mean something else, each at its first place.
+    pub fn tell_misused(&self, faults: &mut Faults) {
+        let told = |(name, misuse): &(&str, Misuse)| !(misuse.depends() && self.excused.contains(*name));
+        self.misused.iter().filter(|(key, _)| told(key)).for_each(|((name, misuse), (at, parameter))| {
+            faults.add(*at, || self.sentence(name, *misuse, parameter));
         });
-        self.unknown_procedures.iter().for_each(|(name, at)| {
-            faults.add(*at, || {
-                let hint = hint(name, self.spawnable.iter().copied(), "");
-                format!("there is no procedure {}{hint}", quoted(name))
-            });
-        });
+    }
+
+    /// What is said of a name where the parameter is called so.
+    fn sentence(&self, name: &str, misuse: Misuse, parameter: &str) -> String {
+        let shown = quoted(name);
+        match misuse {
+            Misuse::NoVariable => {
+                let hint = hint(name, self.variables().chain([parameter]).chain(VALVES), DECLARE_WRITTEN);
+                format!("there is no variable {shown}: it is never set, spawned into or declared{hint}")
+            }
+            Misuse::NoProcedure => {
+                format!("there is no procedure {shown}{}", hint(name, self.spawnable.iter().copied(), ""))
+            }
+            Misuse::Procedure => format!("{shown} is the name of a procedure, and a variable is due here"),
+            Misuse::NotSpawnable(Meaning::Procedure(number)) => {
+                format!("{shown} is procedure {number}: only 0 to 255 can be spawned")
+            }
+            Misuse::NotSpawnable(other) => {
+                format!("{shown} is the name of {}, and a procedure is due here", other.words())
+            }
+            Misuse::OtherParameter => format!("{shown} is the parameter of another procedure"),
+            Misuse::Taken(other) => taken(name, other),
+            Misuse::OwnParameter => format!("the parameter of this procedure has the name {}", quoted(parameter)),
+            Misuse::NoValve => no_valve(name),
+            Misuse::TooMany => {
+                format!("too many variables: no number is left for {shown} (there are 56, 8 to 63)")
+            }
+        }
     }
 
     /// The variables of the text; more than there are numbers for are not listed.
@@ -316,15 +367,24 @@ fn unreserved(name: &str, at: Position) -> Result<(), Fault> {
     Err(Fault::new(at, format!("{} is a word of the notation and cannot be a name{instead}", quoted(name))))
 }
 
-/// The number of a valve's name, none for other names. `valve9` and the like are faults.
-fn valve(name: &str, at: Position) -> Result<Option<u8>, Fault> {
-    let Some(digits) = name.strip_prefix("valve").filter(|rest| rest.starts_with(|c: char| c.is_ascii_digit())) else {
-        return Ok(None);
-    };
-    match digits.as_bytes() {
-        [digit @ b'0'..=b'7'] => Ok(Some(digit - b'0')),
-        _ => Err(Fault::new(at, format!("there is no {}: the valves are valve0 to valve7", quoted(name)))),
-    }
+/// A name such as `valve9`.
+struct NoValve;
+
+/// The number of a valve's name, none for other names.
+fn valve(name: &str) -> Option<Result<u8, NoValve>> {
+    let digits = name.strip_prefix("valve").filter(|rest| rest.starts_with(|c: char| c.is_ascii_digit()))?;
+    Some(match digits.as_bytes() {
+        [digit @ b'0'..=b'7'] => Ok(digit - b'0'),
+        _ => Err(NoValve),
+    })
+}
+
+fn no_valve(name: &str) -> String {
+    format!("there is no {}: the valves are valve0 to valve7", quoted(name))
+}
+
+fn taken(name: &str, before: Meaning) -> String {
+    format!("{} is already the name of {}", quoted(name), before.words())
 }
 
 #[cfg(test)]
@@ -353,14 +413,44 @@ mod tests {
         names.add_parameter("p", AT).unwrap();
         names.add_parameter("p", AT).unwrap();
         assert!(names.add_procedure("press", AT).is_err());
-        assert!(names.add_parameter("main", AT).is_err());
         assert!(names.add_variable("while", 9, AT).is_err());
         assert!(names.add_variable("valve3", 9, AT).is_err());
-        assert!(names.variable("valve8", AT).is_err());
-        assert!(names.variable("press", AT).is_err());
-        assert!(names.variable("p", AT).is_err());
+        assert!(names.add_variable("valve8", 9, AT).is_err());
+        assert!(names.misused.is_empty());
         names.enter("p");
         assert_eq!(names.variable("p", AT), Ok(64));
-        assert!(names.variable("parameter", AT).is_err());
+        assert!(names.misused.is_empty());
+        for (name, misuse) in [
+            ("press", Misuse::Procedure),
+            ("valve8", Misuse::NoValve),
+            ("parameter", Misuse::OwnParameter),
+            ("q", Misuse::NoVariable),
+        ] {
+            names.read(name, AT).unwrap();
+            assert!(names.misused.contains_key(&(name, misuse)), "{name}");
+        }
+        names.enter("q");
+        names.variable("p", AT).unwrap();
+        assert!(names.misused.contains_key(&("p", Misuse::OtherParameter)));
+        names.add_parameter("main", AT).unwrap();
+        assert!(names.misused.contains_key(&("main", Misuse::Taken(Meaning::Procedure(0)))));
+    }
+
+    /// What a line at fault may mean by a name is not told of it; what is wrong in any case is.
+    #[test]
+    fn words_of_lines_at_fault_excuse_names() {
+        let mut names = Names::new();
+        let names_told = |names: &Names| {
+            let mut faults = Faults::new();
+            names.tell_misused(&mut faults);
+            faults.told().len()
+        };
+        for name in ["a", "valve8", "b"] {
+            names.read(name, AT).unwrap();
+        }
+        names.procedure("a", AT);
+        assert_eq!(names_told(&names), 4);
+        names.excuse(["a", "valve8"].into_iter().map(Cow::Borrowed));
+        assert_eq!(names_told(&names), 2);
     }
 }

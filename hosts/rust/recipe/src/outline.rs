@@ -11,9 +11,24 @@ use crate::source::{Fault, Faults, Position};
 pub const STATEMENTS: [&str; 8] = ["skip", "set", "if", "while", "spawn", "suspend", "await", "guard"];
 const HEADERS: [&str; 2] = ["procedure", "variable"];
 
-/// The word of the notation that a line's first one is, or was meant to be.
-fn meant(word: &str) -> Option<&'static str> {
-    keywords().find(|known| *known == word).or_else(|| nearest(word, keywords()))
+/// What a line is by its first word.
+#[derive(Clone, Copy, Debug)]
+pub struct Start {
+    /// The word of the notation that the first one is, or was meant to be.
+    pub keyword: Option<&'static str>,
+    /// Whether the first word is another one, or the line is a header or declaration at fault.
+    pub faulty: bool,
+}
+
+/// The word of the notation that a line's first one is, or was meant to be, and whether it is another one.
+fn meant(word: &str) -> Start {
+    let own = keywords().find(|known| *known == word);
+    Start { keyword: own.or_else(|| nearest(word, keywords())), faulty: own.is_none() }
+}
+
+/// Whether a statement gives no name a meaning: what is misspelt so is still held to the statement's form.
+pub fn reads(keyword: &str) -> bool {
+    matches!(keyword, "if" | "while" | "guard" | "await")
 }
 
 /// All words that a line begins with.
@@ -22,42 +37,38 @@ pub fn keywords() -> impl Iterator<Item = &'static str> {
 }
 
 /// The names of a text, and what each line is by its first word. Faults of headers and declarations are told here.
-pub fn outline<'a>(lines: &[Line<'a>], faults: &mut Faults) -> (Names<'a>, Vec<Option<&'static str>>) {
+pub fn outline<'a>(lines: &[Line<'a>], faults: &mut Faults) -> (Names<'a>, Vec<Start>) {
     let mut names = Names::new();
-    let mut words = Vec::with_capacity(lines.len());
+    let mut starts = Vec::with_capacity(lines.len());
     for line in lines {
-        let keyword = Cursor::new(line).word("").ok().and_then(|(word, _)| meant(word));
-        words.push(keyword);
-        if let Err(fault) = entry(line, keyword, &mut names) {
+        let mut cursor = Cursor::new(line);
+        let mut start = cursor.word("").map_or(Start { keyword: None, faulty: true }, |(word, _)| meant(word));
+        let entered = if start.faulty { Ok(()) } else { entry(start.keyword, &mut cursor, &mut names) };
+        start.faulty |= entered.is_err();
+        if start.faulty && !start.keyword.is_some_and(reads) {
+            // What its words were meant to be is open.
             names.excuse(line.words());
-            fault.into_iter().for_each(|fault| faults.push(fault));
         }
+        entered.unwrap_or_else(|fault| faults.push(fault));
+        starts.push(start);
     }
     names.enter(DEFAULT_PARAMETER);
-    (names, words)
+    (names, starts)
 }
 
-/// Takes up what a line gives a meaning. The error of a line that is told elsewhere has no fault.
-fn entry<'a>(line: &Line<'a>, keyword: Option<&str>, names: &mut Names<'a>) -> Result<(), Option<Fault>> {
-    let mut cursor = Cursor::new(line);
-    let (word, at) = cursor.word("").map_err(|_| None)?;
-    let entered = match keyword {
-        Some("procedure") => header(&mut cursor, names),
-        Some("variable") => declaration(&mut cursor, names),
-        Some("set") => cursor.word("").map(|(name, at)| names.add_set(name, at)).map_err(|_| None),
-        Some("spawn") => cursor.word("").map(|(name, _)| names.add_spawned(name)).map_err(|_| None),
-        None if cursor.assignment().is_some() => {
-            names.add_set(word, at);
-            Ok(())
-        }
-        None if word == "else" || word == "elif" => Ok(()),
-        None => Err(None),
-        Some(_) => Ok(()),
-    };
-    entered.map_err(|fault| fault.filter(|_| keyword == Some(word)))
+/// Takes up what a line behind its first word gives a meaning. What is wrong with a statement is told when it is read.
+fn entry<'a>(keyword: Option<&str>, cursor: &mut Cursor<'a, '_>, names: &mut Names<'a>) -> Result<(), Fault> {
+    match (keyword, cursor.clone().word("")) {
+        (Some("procedure"), _) => return header(cursor, names),
+        (Some("variable"), _) => return declaration(cursor, names),
+        (Some("set"), Ok((name, at))) => names.add_set(name, at),
+        (Some("spawn"), Ok((name, at))) => names.add_spawned(name, at),
+        _ => {}
+    }
+    Ok(())
 }
 
-fn header<'a>(cursor: &mut Cursor<'a, '_>, names: &mut Names<'a>) -> Result<(), Option<Fault>> {
+fn header<'a>(cursor: &mut Cursor<'a, '_>, names: &mut Names<'a>) -> Result<(), Fault> {
     names.enter(DEFAULT_PARAMETER);
     let (name, at) = cursor.word("the procedure's name")?;
     let added = names.add_procedure(name, at);
@@ -67,14 +78,14 @@ fn header<'a>(cursor: &mut Cursor<'a, '_>, names: &mut Names<'a>) -> Result<(), 
         names.enter(parameter);
     }
     added?;
-    Ok(cursor.finish()?)
+    cursor.finish()
 }
 
-fn declaration<'a>(cursor: &mut Cursor<'a, '_>, names: &mut Names<'a>) -> Result<(), Option<Fault>> {
+fn declaration<'a>(cursor: &mut Cursor<'a, '_>, names: &mut Names<'a>) -> Result<(), Fault> {
     let (name, at) = cursor.word("the variable's name")?;
     let (digits, digits_at) = cursor.number("the variable's number")?;
     names.add_variable(name, variable_number(digits, digits_at)?, at)?;
-    Ok(cursor.finish()?)
+    cursor.finish()
 }
 
 fn variable_number(digits: &str, at: Position) -> Result<u8, Fault> {

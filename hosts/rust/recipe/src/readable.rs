@@ -9,7 +9,7 @@ use crate::expression;
 use crate::lexer::{lines, Cursor, Line};
 use crate::names::{Names, ANY_PARAMETER, DEFAULT_PARAMETER};
 use crate::nearest::question;
-use crate::outline::{keywords, outline, STATEMENTS};
+use crate::outline::{keywords, outline, reads, Start, STATEMENTS};
 use crate::source::{Fault, Faults, Position};
 use crate::table::{kind, Assembled, Placed, Record, DEPTH, FIRST_SHARED, RECORDS};
 use crate::tree::Tree;
@@ -19,10 +19,10 @@ use crate::words::quoted;
 pub fn parse(text: &str) -> Result<Assembled, Faults> {
     let lines = lines(text);
     let mut faults = Faults::new();
-    let (names, words) = outline(&lines, &mut faults);
+    let (names, starts) = outline(&lines, &mut faults);
     let mut assembler = Assembler { names, faults, ..Assembler::default() };
-    for (line, keyword) in lines.iter().zip(words) {
-        assembler.line(line, keyword);
+    for (line, start) in lines.iter().zip(starts) {
+        assembler.line(line, start);
     }
     assembler.finish()
 }
@@ -40,7 +40,7 @@ struct Assembler<'a> {
 impl<'a> Assembler<'a> {
     fn finish(mut self) -> Result<Assembled, Faults> {
         self.bodies.end(0, &mut self.records);
-        self.names.tell_unknown(&mut self.faults);
+        self.names.tell_misused(&mut self.faults);
         if self.faults.is_empty() && self.records.is_empty() {
             self.faults.push(Fault::new(Position::START, "the recipe has no procedure"));
         }
@@ -52,25 +52,40 @@ impl<'a> Assembler<'a> {
     }
 
     /// Reads a line; what is wrong with it is told.
-    fn line(&mut self, line: &Line<'a>, keyword: Option<&str>) {
+    fn line(&mut self, line: &Line<'a>, start: Start) {
+        let keyword = start.keyword;
         let mut cursor = Cursor::new(line);
         let (at, header) = (cursor.at(), self.records.len());
         let first = cursor.word("a statement, \"procedure\" or \"variable\"");
         let stands = self.stand(line, keyword, at);
-        let other = first.err().or_else(|| misspelt(line, keyword));
-        if keyword.is_none() && line.indent == 0 {
-            // It may have been a header.
-            self.names.enter(ANY_PARAMETER);
+        let read = match keyword {
+            Some("procedure") => self.procedure(start, &mut cursor, at),
+            Some(keyword) if !start.faulty || reads(keyword) => self.statement(keyword, at, &mut cursor),
+            _ => Ok(()),
+        };
+        match read {
+            Err(_) if start.faulty => self.names.excuse(line.words()),
+            // They may be of a statement that should have a line of its own.
+            Err(_) => self.names.excuse(cursor.words()),
+            Ok(()) => {}
         }
-        let read = keyword.map_or(Ok(()), |keyword| self.statement(keyword, at, &mut cursor));
-        let faulty = other.is_some() || read.is_err();
-        match other {
+        let faulty = start.faulty || read.is_err();
+        match first.err().or_else(|| misspelt(line, keyword)) {
             // What else is wrong with such a line is told when it is mended.
             Some(fault) => self.faults.push(fault),
             None => [stands, read].into_iter().filter_map(Result::err).for_each(|fault| self.faults.push(fault)),
         }
-        let bears = matches!(keyword, Some("if" | "while")) || (faulty && keyword != Some("procedure"));
-        if bears && line.tab.is_none() {
+        self.bear(line, keyword, faulty, header);
+    }
+
+    /// Begins the body that a line has or may have.
+    fn bear(&mut self, line: &Line, keyword: Option<&str>, faulty: bool, header: usize) {
+        let is_header = keyword == Some("procedure");
+        if faulty && !is_header && (line.indent == 0 || line.words().any(|word| word == "procedure")) {
+            // It may have been a header, or hold one.
+            self.names.enter(ANY_PARAMETER);
+        }
+        if line.tab.is_none() && (matches!(keyword, Some("if" | "while")) || (faulty && !is_header)) {
             self.bodies.begin(header, line.indent);
         }
     }
@@ -95,7 +110,6 @@ impl<'a> Assembler<'a> {
 
     fn statement(&mut self, word: &str, at: Position, cursor: &mut Cursor<'a, '_>) -> Result<(), Fault> {
         match word {
-            "procedure" => self.procedure(cursor, at),
             "skip" => self.plain(Record::new(kind::SKIP, 0, 0, 0), at, cursor),
             "suspend" => self.plain(Record::new(kind::SUSPEND, 0, 0, 0), at, cursor),
             "await" => {
@@ -118,12 +132,12 @@ impl<'a> Assembler<'a> {
     }
 
     /// A header; what is wrong with it is told with the outline.
-    fn procedure(&mut self, cursor: &mut Cursor<'a, '_>, at: Position) -> Result<(), Fault> {
+    fn procedure(&mut self, start: Start, cursor: &mut Cursor<'a, '_>, at: Position) -> Result<(), Fault> {
         let parameter = cursor.word("").and_then(|_| cursor.word(""));
-        self.names.enter(match (parameter, cursor.finish()) {
-            (Ok((parameter, _)), Ok(())) => parameter,
-            (_, Ok(())) => DEFAULT_PARAMETER,
-            (_, Err(_)) => ANY_PARAMETER,
+        self.names.enter(match parameter {
+            _ if start.faulty => ANY_PARAMETER,
+            Ok((parameter, _)) => parameter,
+            Err(_) => DEFAULT_PARAMETER,
         });
         let header = self.records.len();
         let pushed = self.push(Record::new(kind::PROCEDURE, 0, 0, 0), at, None);
@@ -134,12 +148,18 @@ impl<'a> Assembler<'a> {
     fn spawn(&mut self, at: Position, cursor: &mut Cursor<'a, '_>) -> Result<(), Fault> {
         let (word, word_at) = cursor.word(VARIABLE)?;
         let name = self.names.variable(word, word_at)?;
+        if self.names.is_procedure(word) {
+            // The names may be the wrong way round. Procedures stay what they are, so that one such line is told.
+            let others: Vec<_> = cursor.words().filter(|word| !self.names.is_procedure(word)).collect();
+            self.names.excuse(others.into_iter());
+            return Ok(());
+        }
         if name < FIRST_SHARED {
             let sentence = "a spawn's number cannot go into a valve (variables 0 to 7)";
             return Err(Fault::new(word_at, sentence));
         }
         let (procedure, procedure_at) = cursor.word("the name of a procedure")?;
-        let number = self.names.procedure(procedure, procedure_at)?;
+        let number = self.names.procedure(procedure, procedure_at);
         self.enclosing(Record::new(kind::SPAWN, name, 0, number), at, cursor)
     }
 
@@ -157,7 +177,7 @@ impl<'a> Assembler<'a> {
         let Some(height) = DEPTH.checked_sub(self.bodies.depth() + 1) else {
             return self.bodies.too_deep(from);
         };
-        let expression = expression.within(height)?;
+        let expression = expression.within(height, record.kind)?;
         let span = u16::try_from(expression.size()).unwrap_or(u16::MAX);
         self.push(Record { span, ..record }, at, Some(expression))
     }

@@ -12,6 +12,27 @@ pub struct Position {
     pub column: usize,
 }
 
+/// Letters and signs that show as nothing.
+const BLANK: [char; 5] = ['\u{115f}', '\u{1160}', '\u{2800}', '\u{3164}', '\u{ffa0}'];
+
+/// Whether a character shows as nothing.
+pub fn is_blank(c: char) -> bool {
+    BLANK.contains(&c)
+}
+
+/// Whether a character is seen for what it is: no control or format character, no space but the usual one, and none
+/// that is drawn onto the one before it.
+pub fn is_plain(c: char) -> bool {
+    // These are escaped for another reason.
+    let is_quote = matches!(c, '"' | '\'' | '\\');
+    (c.escape_debug().len() == 1 || is_quote) && !is_blank(c)
+}
+
+/// A character by its code, as `U+200B`.
+pub fn code(c: char) -> String {
+    format!("U+{:04X}", u32::from(c))
+}
+
 impl Position {
     pub const START: Position = Position { line: 1, column: 1 };
 }
@@ -44,7 +65,8 @@ impl Fault {
         let Position { line, column } = self.at;
         match text.lines().nth(line.saturating_sub(1)) {
             Some(row) if !row.trim().is_empty() && row.chars().count() <= SHOWN => {
-                let shown: String = row.chars().map(|c| if c.is_control() { ' ' } else { c }).collect();
+                // Others would move the mark away from its character, or turn the line round.
+                let shown: String = row.chars().map(|c| if is_plain(c) { c } else { ' ' }).collect();
                 format!("\n  {}\n  {}^", shown.trim_end(), " ".repeat(column.saturating_sub(1)))
             }
             _ => String::new(),
@@ -143,5 +165,35 @@ mod tests {
         let fault = Fault::new(Position { line: 2, column: 5 }, "bad");
         assert_eq!(fault.show("f", "one\n\ttwo x\n"), "f:2:5: bad\n   two x\n      ^");
         assert_eq!(fault.show("f", "one\n"), "f:2:5: bad");
+        assert_eq!(fault.show("f", "\na\u{202e}\u{200b}d\u{e9}"), "f:2:5: bad\n  a  d\u{e9}\n      ^");
+    }
+
+    #[test]
+    fn characters_that_are_not_seen_are_known() {
+        for c in ['a', 'Z', '~', ' ', '"', '\'', '\\', '\u{e4}', '\u{20ac}', '\u{4e2d}', '\u{1f600}'] {
+            assert!(is_plain(c), "{c}");
+        }
+        for (c, shown) in [
+            ('\0', "U+0000"),
+            ('\r', "U+000D"),
+            ('\u{7f}', "U+007F"),
+            ('\u{85}', "U+0085"),
+            ('\u{a0}', "U+00A0"),
+            ('\u{ad}', "U+00AD"),
+            ('\u{301}', "U+0301"),
+            ('\u{200b}', "U+200B"),
+            ('\u{200d}', "U+200D"),
+            ('\u{202e}', "U+202E"),
+            ('\u{2066}', "U+2066"),
+            ('\u{2800}', "U+2800"),
+            ('\u{3000}', "U+3000"),
+            ('\u{3164}', "U+3164"),
+            ('\u{e000}', "U+E000"),
+            ('\u{fe0f}', "U+FE0F"),
+            ('\u{feff}', "U+FEFF"),
+            ('\u{e0041}', "U+E0041"),
+        ] {
+            assert_eq!((is_plain(c), &*code(c)), (false, shown));
+        }
     }
 }

@@ -77,11 +77,12 @@ impl Tree {
         self.size
     }
 
-    /// The expression within a height: as it is if it fits, else with its chains of `and` and `or` grouped anew.
+    /// The expression of a statement, by its kind, within a height: as it is if it fits, else with its chains of `and`
+    /// and `or` grouped anew.
     ///
     /// Those two give 1 or 0 by the truth of all their operands, and no value where one has none: any grouping gives
     /// the same. The other operators stop at the ends of the range and keep theirs.
-    pub fn within(self, height: usize) -> Result<Tree, Fault> {
+    pub fn within(self, height: usize, statement: u8) -> Result<Tree, Fault> {
         if self.height <= height {
             return Ok(self);
         }
@@ -89,7 +90,7 @@ impl Tree {
         if tree.height <= height {
             Ok(tree)
         } else {
-            Err(tree.too_deep(height))
+            Err(tree.too_deep(height, statement))
         }
     }
 
@@ -106,13 +107,15 @@ impl Tree {
     }
 
     /// The fault of an expression over a height, where the text gets there.
-    fn too_deep(&self, height: usize) -> Fault {
+    fn too_deep(&self, height: usize, statement: u8) -> Fault {
         match &self.shape {
             Shape::Operand(placed) => Fault::new(placed.at, "the depth is over 16 here"),
-            Shape::One { operand, .. } if height > 0 && operand.height >= height => operand.too_deep(height - 1),
-            Shape::One { at, .. } => nested(*at),
-            Shape::Chain { first, .. } if height > 0 && first.height >= height => first.too_deep(height - 1),
-            Shape::Chain { first, links } => link_too_deep(first, links, height),
+            Shape::One { operand, .. } if height > 0 && operand.height >= height => {
+                operand.too_deep(height - 1, statement)
+            }
+            Shape::One { at, .. } => nested(*at, statement),
+            Shape::Chain { first, .. } if height > 0 && first.height >= height => first.too_deep(height - 1, statement),
+            Shape::Chain { first, links } => link_too_deep(first, links, height, statement),
         }
     }
 
@@ -201,39 +204,53 @@ fn fill(first: Tree, links: &mut Peekable<IntoIter<Link>>, height: usize) -> Tre
 }
 
 /// The fault of a chain over a height, at the operator that gets there, or within the operand that does.
-fn link_too_deep(first: &Tree, links: &[Link], height: usize) -> Fault {
+fn link_too_deep(first: &Tree, links: &[Link], height: usize, statement: u8) -> Fault {
     let mut reached = first.height;
     for link in links {
         if height > 0 && link.right.height >= height {
-            return link.right.too_deep(height - 1);
+            return link.right.too_deep(height - 1, statement);
         }
         reached = reached.max(link.right.height) + 1;
         if reached > height {
-            return at_operator(link, links.len() > 1 && height > 0);
+            return at_operator(link, links.len() > 1 && height > 0, statement);
         }
     }
     // Not met: the chain is over the height.
     Fault::new(Position::START, "the depth is over 16")
 }
 
-fn at_operator(link: &Link, in_chain: bool) -> Fault {
+fn at_operator(link: &Link, in_chain: bool, statement: u8) -> Fault {
     let (sign, binding) = OPERATORS.get(usize::from(link.operator)).copied().unwrap_or_default();
     if in_chain && (binding == level::SUM || binding == level::PRODUCT) {
         let shown = quoted(sign);
+        let part = part_before(statement);
         let sentence = format!(
             "the depth is over 16 at this {shown}: a chain of + - * / is grouped from the left, one deeper for each \
              operator, and not otherwise, as arithmetic stops at the ends of the range and another grouping could \
-             give another value; group it with parentheses, \"(a + b) + (c + d)\", or set a part in a statement before"
+             give another value; group it with parentheses, \"(a + b) + (c + d)\"{part}"
         );
         return Fault::new(link.at, sentence);
     }
-    nested(link.at)
+    nested(link.at, statement)
 }
 
-fn nested(at: Position) -> Fault {
-    let sentence = "the depth is over 16 at this operator: bodies and expressions count together; set a part of the \
-                    expression to a variable in a statement before";
+fn nested(at: Position, statement: u8) -> Fault {
+    let part = part_before(statement);
+    let sentence = format!(
+        "the depth is over 16 at this operator: bodies and expressions count together; group the expression with \
+         parentheses, or write the statements of an inner body as a procedure that is spawned and awaited{part}"
+    );
     Fault::new(at, sentence)
+}
+
+/// What is said of a part of the expression that is set before the statement. The test of a while or guard is worked
+/// out again and again, and what is set before it is not.
+fn part_before(statement: u8) -> &'static str {
+    match statement {
+        kind::WHILE => ", or set a part to a variable before and set it again in the body",
+        kind::GUARD => " (a part set before would not be worked out anew at each test)",
+        _ => ", or set a part in a statement before",
+    }
 }
 
 #[cfg(test)]
@@ -257,7 +274,7 @@ mod tests {
 
     #[test]
     fn chains_that_fit_stay_as_they_are() {
-        let tree = chained(6, 5).within(4).unwrap();
+        let tree = chained(6, 5).within(4, kind::SET).unwrap();
         assert!(matches!(tree.shape, Shape::Chain { links, .. } if links.len() == 4));
     }
 
@@ -285,6 +302,6 @@ mod tests {
     #[test]
     fn sums_are_not_regrouped() {
         assert_eq!(chained(0, 16).balanced().height, 15);
-        assert!(chained(0, 16).within(14).unwrap_err().sentence.contains("at this \"+\""));
+        assert!(chained(0, 16).within(14, kind::SET).unwrap_err().sentence.contains("at this \"+\""));
     }
 }

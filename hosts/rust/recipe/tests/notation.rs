@@ -144,6 +144,46 @@ fn misspelt_procedures_and_statements_are_told_with_the_nearest() {
     }
 }
 
+/// A name that means something else is told at its first place alone.
+#[test]
+fn a_misused_name_is_told_once() {
+    for (line, column, part) in [
+        ("set level 1", 7, "\"level\" is the parameter of another procedure"),
+        ("guard 1 + level", 13, "\"level\" is the parameter of another procedure"),
+        ("await press", 9, "\"press\" is the name of a procedure, and a variable is due here"),
+        ("spawn press press 5", 9, "\"press\" is the name of a procedure, and a variable is due here"),
+        ("spawn x sensor 5", 11, "\"sensor\" is the name of a variable, and a procedure is due here"),
+        ("spawn x level 5", 11, "\"level\" is the name of the parameter of a procedure, and a procedure is due here"),
+        ("if valve9", 6, "there is no \"valve9\": the valves are valve0 to valve7"),
+        ("set valve9 1", 7, "there is no \"valve9\": the valves are valve0 to valve7"),
+        ("set valve0 parameter", 14, "the parameter of this procedure has the name \"own\""),
+    ] {
+        let lines = format!("  {line}\n").repeat(25);
+        let text = format!("variable sensor 9\nprocedure main own\n{lines}  guard missing\nprocedure press level\n");
+        let faults = told(&text);
+        assert_eq!(faults.len(), 2, "{line}: {faults:#?}");
+        assert_eq!(faults[0], format!(":3:{column}: {part}"));
+        assert!(faults[1].starts_with(":28:9: there is no variable \"missing\""), "{faults:#?}");
+    }
+    let headers: String = (0..25).map(|number| format!("procedure p{number} sensor\n  guard sensor\n")).collect();
+    let faults = told(&format!("variable sensor 9\n{headers}"));
+    assert_eq!(faults, [":2:14: \"sensor\" is already the name of a variable"]);
+}
+
+#[test]
+fn main_is_the_first_procedure_and_there_once() {
+    let first = "the first procedure is the main one: \"main\" must stand before the others";
+    let twice = "\"main\" is already the name of a procedure";
+    for (text, due) in [
+        ("procedure main\nprocedure main", &[format!(":2:11: {twice}")][..]),
+        ("procedure main\nprocedure a\nprocedure main", &[format!(":3:11: {twice}")]),
+        ("procedure a\nprocedure main", &[format!(":2:11: {first}")]),
+        ("procedure a\nprocedure main\nprocedure main", &[format!(":2:11: {first}"), format!(":3:11: {twice}")]),
+    ] {
+        assert_eq!(told(text), due, "{text}");
+    }
+}
+
 #[test]
 fn listings_have_no_warnings() {
     let mut generator = Generator::new(7);
@@ -463,6 +503,131 @@ fn two_lines_at_fault_are_told_alone() {
     }
 }
 
+/// Lines at fault that give names a meaning behind what is wrong, and lines that need it.
+#[rustfmt::skip]
+const GIVING: &[(&str, &[&str])] = &[
+    ("set a 1; set b 2", &["set valve0 a + b"]),
+    ("set a 1, set b 2", &["set valve0 a + b"]),
+    ("set a 5 set b 6", &["set valve0 a + b", "await b"]),
+    ("a = 1; b = 2", &["set valve0 a + b"]),
+    ("a, b = 1, 2", &["set valve0 a + b"]),
+    ("let a = b; set b 1", &["set valve0 a + b"]),
+    ("if 1: set b 2", &["guard b"]),
+    ("if 1 set b 2", &["guard b"]),
+    ("else: set b 2", &["guard b"]),
+    ("else if 1: set b 2", &["guard b"]),
+    ("while 1 { set b 2; suspend }", &["guard b"]),
+    ("await p, set high 1", &["guard high"]),
+    ("set 5 a", &["guard a"]),
+    ("spawn press t 5", &["await t", "spawn u press 5"]),
+    ("spawn 5 t press", &["await t", "spawn u press 5"]),
+    ("spawn valve0 t press", &["await t"]),
+    ("set set flow 600", &["guard flow"]),
+    ("spawn spawn presser press 5", &["await presser"]),
+    ("let flow 5", &["guard flow"]),
+    ("sett a b", &["guard a", "await b"]),
+    ("1: set b 2", &["guard b"]),
+    ("guard valve9 set b 2", &["guard b"]),
+    ("guard true; set b 2", &["guard b"]),
+    ("iff 1: set b 2", &["guard b"]),
+    ("Guard b = 2", &["guard b"]),
+    ("awit t press 5", &["await t"]),
+];
+
+/// Such a line anywhere in a text is told alone.
+#[test]
+fn what_a_line_at_fault_names_is_known() {
+    for (harmed, users) in GIVING {
+        for user in *users {
+            for lines in [[*harmed, user], [user, harmed]] {
+                let [one, other] = lines;
+                let text = format!("variable p 9\nprocedure main\n  {one}\n  {other}\nprocedure press\n  skip\n");
+                let place = if one == *harmed { ":3:" } else { ":4:" };
+                let faults = told(&text);
+                assert!(!faults.is_empty(), "{text}");
+                assert!(faults.iter().all(|fault| fault.starts_with(place)), "{text}: {faults:#?}");
+            }
+        }
+    }
+}
+
+/// Two lines in one, or with what begins a line written twice.
+#[test]
+fn lines_that_are_joined_are_told_alone() {
+    for text in recipes().iter().map(String::as_str).chain([DEPENDENT]) {
+        let lines: Vec<&str> = text.lines().map(|line| line.split('#').next().unwrap().trim_end()).collect();
+        for (index, line) in lines.iter().enumerate().filter(|(_, line)| !line.is_empty()) {
+            let indent = &line[..line.len() - line.trim_start().len()];
+            let (word, rest) = line.trim_start().split_once(' ').unwrap_or((line.trim_start(), ""));
+            let next = lines.get(index + 1).map_or("", |next| next.trim_start());
+            let joined = ["; ", ", ", " ", ": ", " { "].map(|between| format!("{line}{between}{next}"));
+            let joined = joined.into_iter().map(|joined| (joined, 2)).filter(|_| !next.is_empty());
+            let doubled =
+                [word, "let", "def", "if", "await"].map(|other| (format!("{indent}{other} {word} {rest}"), 1));
+            for (harmed, count) in joined.chain(doubled) {
+                let mut lines = lines.clone();
+                lines.splice(index..index + count, [&*harmed]);
+                let faults = told(&lines.join("\n"));
+                let place = format!(":{}:", index + 1);
+                assert!(!faults.is_empty(), "{harmed}");
+                assert!(faults.iter().all(|fault| fault.starts_with(&place)), "{harmed:?}: {faults:#?}\n{text}");
+            }
+        }
+    }
+}
+
+#[test]
+fn a_header_at_fault_is_told_alone() {
+    let callers = "procedure first\n  spawn x look 1\n  await x\n";
+    for header in ["let look depth", "def look depth:", "procedur look depth", "look depth", "procedure look depth {"] {
+        let body = "  set valve0 depth\n  if depth < parameter\n    set depth 5\n  guard depth\n";
+        for text in [format!("{callers}{header}\n{body}"), format!("{header}\n{body}{callers}")] {
+            let place = format!(":{}:", 1 + text.lines().position(|line| line == header).unwrap());
+            let faults = told(&text);
+            assert_eq!((faults.len(), faults[0].starts_with(&place)), (1, true), "{text}: {faults:#?}");
+        }
+    }
+    for sign in [";", ",", ""] {
+        for (declared, second) in
+            [("variable sensors 9", "variable level 10"), ("variable sensors 9", "procedure look p")]
+        {
+            let header = format!("{declared}{sign} {second}");
+            let body = "  set valve0 sensors\n  if sensors < parameter\n    set valve1 2\n";
+            let text = format!("procedure main q\n  set q 1\n{header}\n{body}  await sensors\n");
+            let faults = told(&text);
+            assert_eq!((faults.len(), faults[0].starts_with(":3:")), (1, true), "{text}: {faults:#?}");
+        }
+    }
+}
+
+/// What is misspelt elsewhere is told beside a line at fault: in what was read of it, and where it does not stand in it.
+#[test]
+fn a_line_at_fault_hides_no_other() {
+    let elsewhere = ":4:9: there is no variable \"presure\"";
+    for (harmed, users) in GIVING {
+        let text =
+            format!("variable p 9\nprocedure main\n  {harmed}\n  guard presure\n  {}\nprocedure press", users[0]);
+        let faults = told(&text);
+        assert!(faults.iter().any(|fault| fault.starts_with(elsewhere)), "{text}: {faults:#?}");
+    }
+    for (line, column) in
+        [("set a presure %", 9), ("if presure:", 6), ("guard 1 < presure; skip", 13), ("await presure 5", 9)]
+    {
+        let text = format!("procedure main\n  {line}\n  guard presure\n  await a\n  set a 1");
+        let faults = told(&text);
+        let due = format!(":2:{column}: there is no variable \"presure\"");
+        assert_eq!((faults.len(), faults[0].starts_with(&due)), (2, true), "{text}: {faults:#?}");
+    }
+    let faults = told("procedure main\n  iff 1 < presure\n    skip\n  guard presure");
+    let due = ":2:11: there is no variable \"presure\"";
+    assert_eq!((faults.len(), faults[1].starts_with(due)), (2, true), "{faults:#?}");
+    // What is wrong with a name whatever it means, and two spawns that would excuse each other.
+    let faults = told("procedure main\n  skip; set valve9 1\n  set valve9 2");
+    assert_eq!((faults.len(), faults[1].starts_with(":3:7: there is no \"valve9\"")), (2, true), "{faults:#?}");
+    let faults = told("procedure main\n  spawn main press 5\n  spawn press main 5\nprocedure press");
+    assert_eq!(faults.len(), 2, "{faults:#?}");
+}
+
 /// Where a line has other spaces before it, it or the next one with those that are due is told, and no more.
 #[test]
 fn a_wrong_indentation_is_told_once() {
@@ -629,6 +794,120 @@ fn other_nesting_is_refused_where_it_gets_too_deep() {
     assert!(assemble(&within_ifs(15, "skip")).is_ok());
     assert!(assemble(&within_ifs(12, "guard 1 and 2 and 3 and 4")).is_ok());
     assert!(told(&within_ifs(12, "guard 1 and 2 and 3 and 4 and 5"))[0].contains("at this operator"));
+}
+
+/// What is set before a guard or while is not worked out anew at each test.
+#[test]
+fn what_to_do_where_it_is_too_deep_suits_the_statement() {
+    let sum = vec!["1"; 17].join(" + ");
+    let nots = format!("{}1", "not ".repeat(17));
+    for expression in [&sum, &nots] {
+        for (statement, parts, wrong) in [
+            ("guard", &["parentheses", "would not be worked out anew"][..], "or set a part"),
+            ("while", &["parentheses", "set it again in the body"], "statement before"),
+            ("if", &["parentheses", "in a statement before"], "again"),
+            ("set valve0", &["parentheses", "in a statement before"], "again"),
+            ("spawn x main", &["parentheses", "in a statement before"], "again"),
+        ] {
+            let faults = told(&within_ifs(0, &format!("{statement} {expression}")));
+            assert_eq!((faults.len(), faults[0].contains("the depth is over 16 at this")), (1, true), "{faults:?}");
+            assert!(parts.iter().all(|part| faults[0].contains(part)), "{statement}: {faults:?}");
+            assert!(!faults[0].contains(wrong), "{statement}: {faults:?}");
+        }
+    }
+}
+
+#[test]
+fn parentheses_too_many_are_to_be_left_out() {
+    let within = |count: usize| format!("set valve0 {}1{}", "(".repeat(count), ")".repeat(count));
+    assert!(assemble(&within_ifs(0, &within(100))).is_ok());
+    let faults = told(&within_ifs(0, &within(101)));
+    assert_eq!(faults, [":2:114: the expression is nested over 100 deep: leave out parentheses"]);
+}
+
+// Characters and files.
+
+#[test]
+fn characters_that_are_not_seen_are_told_by_their_codes() {
+    for (hidden, code) in [
+        ("\u{1}", "U+0001"),
+        ("\u{a0}", "U+00A0"),
+        ("\u{ad}", "U+00AD"),
+        ("\u{200b}", "U+200B"),
+        ("\u{202e}", "U+202E"),
+        ("\u{feff}", "U+FEFF"),
+        ("\u{3164}", "U+3164"),
+    ] {
+        for line in [
+            format!("{hidden}skip"),
+            format!("guard{hidden} 1"),
+            format!("guard 1 + {hidden}2"),
+            format!("set x{hidden} 1"),
+        ] {
+            let faults = placed(&format!("procedure main\n  {line}\n")).unwrap_err().show("", "");
+            assert_eq!((faults.lines().count(), faults.contains(code)), (1, true), "{line:?}: {faults}");
+            assert!(faults.is_ascii(), "{faults:?}");
+        }
+    }
+    assert!(told("procedure main\n  set x\u{20ac} 1")[0].contains('\u{20ac}'));
+}
+
+/// A word with such a character is the one that it looks like.
+#[test]
+fn a_word_with_a_hidden_character_is_told_alone() {
+    let text = "\
+variable sensor 9
+procedure main
+  set pressure 5
+  if sensor < pressure
+    spawn presser pressing pressure
+  await presser
+procedure pressing target
+  set valve0 target
+";
+    assert_eq!((told(text), warned(text)), (vec![], vec![]));
+    let lines: Vec<&str> = text.lines().collect();
+    for (index, line) in lines.iter().enumerate() {
+        let inside = line.char_indices().filter(|(at, c)| *at > 0 && c.is_alphabetic() && !line[..*at].ends_with(' '));
+        for (at, _) in inside {
+            let harmed = format!("{}\u{200b}{}", &line[..at], &line[at..]);
+            let mut lines = lines.clone();
+            lines[index] = &harmed;
+            let due = format!(":{}:{}: the character U+200B cannot stand in a recipe", index + 1, at + 1);
+            assert_eq!(told(&lines.join("\n")), [due], "{harmed:?}");
+        }
+    }
+}
+
+#[test]
+fn line_ends_of_cr_alone_are_told() {
+    let sentence = "the lines of this text end with CR: line ends of LF or CR LF are due";
+    for (text, column) in [
+        ("procedure main\r  set valve0 1\r", 15),
+        ("# a comment\rprocedure main\r  skip\r", 12),
+        ("1(0,1,0) # main\r2(0,0,0)", 16),
+    ] {
+        assert_eq!(told(text), [format!(":1:{column}: {sentence}")], "{text:?}");
+        assert!(assemble(&text.replace('\r', "\n")).is_ok());
+        assert_eq!(assemble(&text.replace('\r', "\r\n")), assemble(&text.replace('\r', "\n")));
+    }
+    let faults = told("procedure main\r\n  skip\r  skip\r\n");
+    assert_eq!(faults, [":2:7: the character U+000D cannot stand in a line: lines end with LF or CR LF"]);
+}
+
+#[test]
+fn a_file_that_is_no_text_is_told_by_its_kind() {
+    let d = directory("notation_kinds");
+    let table = assemble("procedure main\n  skip\n").unwrap();
+    fs::write(d.join("a.table"), &table).unwrap();
+    for arguments in [&["run", "a.table", "--save", "a.state"][..], &["timeline", "a.table", "-o", "a.svg"]] {
+        assert_eq!(status(&recipe(&d, arguments, b"")), 0);
+    }
+    for (file, kind) in [("a.table", "a table"), ("a.state", "a saved state"), ("a.svg", "a picture")] {
+        let output = recipe(&d, &["asm", file], b"");
+        let due = format!("{file}:1:1: this is {kind} and not text\n");
+        assert_eq!((status(&output), stdout(&output), stderr(&output)), (1, String::new(), due));
+    }
 }
 
 // Any text.
