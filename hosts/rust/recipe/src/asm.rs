@@ -102,7 +102,7 @@ mod tests {
             (State::start(&table).unwrap().as_bytes(), "a saved state"),
             (b"recipe state 01\n\xff", "a saved state"),
             (b"<svg xmlns", "a picture"),
-            (b"<?xml version", "a picture"),
+            (b"<?xml version=\"1.0\"?>\n<svg>", "a picture"),
         ] {
             assert_eq!(text(bytes), Err(Fault::new(Position::START, format!("this is {kind} and not text"))));
         }
