@@ -57,7 +57,7 @@ extern "C" {
 
 /* The version of this header and of the archive that it declares. CHANGELOG.md
    says what a host has to change from one to the next. */
-#define RECIPE_RUNNER_VERSION "0.8.0"
+#define RECIPE_RUNNER_VERSION "0.9.0"
 
 /* Size of a record of the table, of the state and of the log. */
 #define RECIPE_RECORD_BYTES 8

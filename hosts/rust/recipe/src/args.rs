@@ -1,17 +1,20 @@
 //! The command line of a subcommand.
 
+use std::borrow::Cow;
 use std::ffi::{OsStr, OsString};
 use std::path::{Path, PathBuf};
 
 use crate::failure::Failure;
 use crate::words::quoted;
 
-/// The files and options that a subcommand knows.
+/// The files, lists and options that a subcommand knows.
 #[derive(Clone, Copy, Debug)]
 pub struct Options {
     pub command: &'static str,
     /// What the help text calls the files, in their order; a last one with "..." behind it stands for any number.
     pub files: &'static [&'static str],
+    /// What it calls the lists of procedures, which stand behind the files.
+    pub lists: &'static [&'static str],
     /// Options with a value behind them.
     pub valued: &'static [&'static str],
     pub flags: &'static [&'static str],
@@ -30,6 +33,7 @@ const FORMER: [(&str, &str, &str); 5] = [
 #[derive(Debug, Default)]
 pub struct Given {
     files: Vec<OsString>,
+    lists: Vec<OsString>,
     values: Vec<(&'static str, OsString)>,
     flags: Vec<&'static str>,
 }
@@ -45,11 +49,9 @@ impl Options {
                 Some(text) if options && text.len() > 1 && text.starts_with('-') => {
                     self.option(&mut given, text, &mut arguments)?;
                 }
-                _ if given.files.len() == self.files.len() && !self.takes_more() => {
-                    let (name, taken) = (quoted(&argument.to_string_lossy()), self.files.join(" and "));
-                    return Err(self.wrong(format!("{name} is one file too many after {taken}")));
-                }
-                _ => given.files.push(argument.clone()),
+                _ if given.files.len() < self.files.len() || self.takes_more() => given.files.push(argument.clone()),
+                _ if given.lists.len() < self.lists.len() => given.lists.push(argument.clone()),
+                _ => return Err(self.too_many(argument)),
             }
         }
         Ok(given)
@@ -57,6 +59,13 @@ impl Options {
 
     fn takes_more(&self) -> bool {
         self.files.last().is_some_and(|name| name.ends_with("..."))
+    }
+
+    /// The failure of an argument behind all that is taken.
+    fn too_many(&self, argument: &OsStr) -> Failure {
+        let noun = if self.lists.is_empty() { "file" } else { "argument" };
+        let (name, taken) = (quoted(&argument.to_string_lossy()), [self.files, self.lists].concat().join(" and "));
+        self.wrong(format!("{name} is one {noun} too many after {taken}"))
     }
 
     fn option<'i>(
@@ -148,6 +157,18 @@ impl Options {
             self.wrong(format!("{missing} is missing: the name of a file is due"))
         })
     }
+
+    /// A list of procedures, the one at `index` of the lists.
+    pub fn list<'g>(&self, given: &'g Given, index: usize) -> Result<Cow<'g, str>, Failure> {
+        if let Some(list) = given.lists.get(index) {
+            return Ok(list.to_string_lossy());
+        }
+        // A file may be missing before it.
+        let file = self.files.get(given.files.len()).map(|file| (file, "the name of a file"));
+        let list = self.lists.get(given.lists.len()).map(|list| (list, "a list of procedures"));
+        let (missing, due) = file.or(list).unwrap_or((&"LIST", "a list of procedures"));
+        Err(self.wrong(format!("{missing} is missing: {due} is due")))
+    }
 }
 
 /// Whether a name is no file's of its own: standard input's, or an empty one.
@@ -190,9 +211,11 @@ mod tests {
     use super::*;
 
     const OPTIONS: Options =
-        Options { command: "run", files: &["FILE"], valued: &["--budget", "-o"], flags: &["--quiet"] };
-    const TWO: Options = Options { command: "why", files: &["TABLE", "STATE"], valued: &[], flags: &[] };
-    const MANY: Options = Options { command: "check", files: &["FILE..."], valued: &[], flags: &[] };
+        Options { command: "run", files: &["FILE"], lists: &[], valued: &["--budget", "-o"], flags: &["--quiet"] };
+    const TWO: Options = Options { command: "why", files: &["TABLE", "STATE"], lists: &[], valued: &[], flags: &[] };
+    const LISTS: Options =
+        Options { command: "makers", files: &["TABLE"], lists: &["PUMPS", "DRUMS"], valued: &[], flags: &[] };
+    const MANY: Options = Options { command: "check", files: &["FILE..."], lists: &[], valued: &[], flags: &[] };
 
     fn given(options: Options, arguments: &[&str]) -> Result<Given, Failure> {
         options.read(&arguments.iter().map(OsString::from).collect::<Vec<_>>())
@@ -226,6 +249,24 @@ mod tests {
             (&["t", "s", "x"], "recipe: why: \"x\" is one file too many after TABLE and STATE"),
         ] {
             let wrong = given(TWO, arguments).and_then(|given| TWO.due(&given, 1).map(PathBuf::from)).unwrap_err();
+            assert_eq!((wrong.status, wrong.message.starts_with(told)), (2, true), "{}", wrong.message);
+        }
+    }
+
+    #[test]
+    fn lists_are_read_as_they_are() {
+        for list in ["1,2", "", "-"] {
+            let all = given(LISTS, &["t", list, "3"]).unwrap();
+            let lists = [0, 1].map(|index| LISTS.list(&all, index).unwrap().into_owned());
+            assert_eq!((all.input(), lists), (Some(PathBuf::from("t")), [list.to_string(), "3".to_string()]));
+        }
+        for (arguments, told) in [
+            (&[][..], "recipe: makers: TABLE is missing: the name of a file is due"),
+            (&["t"], "recipe: makers: PUMPS is missing: a list of procedures is due"),
+            (&["t", "1"], "recipe: makers: DRUMS is missing: a list of procedures is due"),
+            (&["t", "1", "3", "x"], "recipe: makers: \"x\" is one argument too many after TABLE and PUMPS and DRUMS"),
+        ] {
+            let wrong = given(LISTS, arguments).and_then(|given| LISTS.list(&given, 1).map(String::from)).unwrap_err();
             assert_eq!((wrong.status, wrong.message.starts_with(told)), (2, true), "{}", wrong.message);
         }
     }

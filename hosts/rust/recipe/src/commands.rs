@@ -13,14 +13,17 @@ use crate::files::{self, Loaded};
 use crate::words::quoted;
 use crate::{check, help, listing, raw, saved, state, why};
 
+mod makers;
 mod run;
 mod timeline;
 
-const ASM: Options = Options { command: "asm", files: &["FILE"], valued: &["-o"], flags: &["--force"] };
-const DIS: Options = Options { command: "dis", files: &["FILE"], valued: &["-o"], flags: &["--raw", "--force"] };
-const CHECK: Options = Options { command: "check", files: &["FILE..."], valued: &[], flags: &[] };
-const WHY: Options = Options { command: "why", files: &["TABLE", "STATE"], valued: &[], flags: &[] };
-const STATE_OF: Options = Options { command: "state", files: &["FILE"], valued: &["--block"], flags: &["--force"] };
+const ASM: Options = Options { command: "asm", files: &["FILE"], lists: &[], valued: &["-o"], flags: &["--force"] };
+const DIS: Options =
+    Options { command: "dis", files: &["FILE"], lists: &[], valued: &["-o"], flags: &["--raw", "--force"] };
+const CHECK: Options = Options { command: "check", files: &["FILE..."], lists: &[], valued: &[], flags: &[] };
+const WHY: Options = Options { command: "why", files: &["TABLE", "STATE"], lists: &[], valued: &[], flags: &[] };
+const STATE_OF: Options =
+    Options { command: "state", files: &["FILE"], lists: &[], valued: &["--block"], flags: &["--force"] };
 
 /// Carries out a command line; the exit status is returned, or the failure to tell.
 pub fn dispatch(arguments: &[OsString]) -> Result<u8, Failure> {
@@ -39,6 +42,7 @@ pub fn dispatch(arguments: &[OsString]) -> Result<u8, Failure> {
         "check" => check(&CHECK.read(rest)?),
         "run" => printing_refusals(run::run(&run::RUN.read(rest)?)),
         "why" => printing_refusals(why(&WHY.read(rest)?)),
+        "makers" => makers::makers(&makers::MAKERS.read(rest)?),
         "state" => printing_refusals(show_state(&STATE_OF.read(rest)?)),
         "timeline" => timeline::timeline(&timeline::TIMELINE.read(rest)?),
         "--help" | "-h" => print(help::TOOL),

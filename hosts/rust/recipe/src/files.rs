@@ -1,5 +1,6 @@
 //! Files and standard streams.
 
+use std::collections::BTreeMap;
 use std::fs::{self, File, OpenOptions};
 use std::io::{self, ErrorKind, Read, Write};
 use std::path::{Path, PathBuf};
@@ -31,6 +32,8 @@ pub struct Loaded {
 pub struct Source {
     pub text: String,
     pub records: Vec<Placed>,
+    /// What the text calls the shared variables, by their numbers.
+    pub variables: BTreeMap<u8, String>,
 }
 
 /// What a file is called in messages.
@@ -79,9 +82,9 @@ pub fn assemble(file: Option<&Path>) -> Result<Loaded, Failure> {
     let name = shown(file);
     let text = asm::text(&bytes).map_err(|fault| Failure::faults(&name, "", &fault.into()))?;
     let assembled = asm::placed(text).map_err(|faults| Failure::faults(&name, text, &faults))?;
-    let Assembled { records, warnings } = assembled;
+    let Assembled { records, warnings, variables } = assembled;
     warn(&name, text, &warnings);
-    let source = Source { text: text.to_string(), records };
+    let source = Source { text: text.to_string(), records, variables };
     Ok(Loaded { name, table: encode(&source.records), source: Some(source) })
 }
 

@@ -8,6 +8,7 @@ pub fn of(command: &str) -> Option<&'static str> {
         "check" => CHECK,
         "run" => RUN,
         "why" => WHY,
+        "makers" => MAKERS,
         "state" => STATE,
         "timeline" => TIMELINE,
         _ => return None,
@@ -20,6 +21,7 @@ const DIS: &str = include_str!("help/dis.txt");
 const CHECK: &str = include_str!("help/check.txt");
 const RUN: &str = include_str!("help/run.txt");
 const WHY: &str = include_str!("help/why.txt");
+const MAKERS: &str = include_str!("help/makers.txt");
 const STATE: &str = include_str!("help/state.txt");
 const TIMELINE: &str = include_str!("help/timeline.txt");
 

@@ -18,6 +18,7 @@ pub mod files;
 pub mod help;
 pub mod lexer;
 pub mod listing;
+pub mod makers;
 pub mod names;
 pub mod nearest;
 pub mod outline;

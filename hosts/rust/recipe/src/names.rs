@@ -344,6 +344,11 @@ impl<'a> Names<'a> {
         warnings
     }
 
+    /// What the shared variables are called, by their numbers.
+    pub fn called(&self) -> BTreeMap<u8, String> {
+        (0..).zip(self.taken).filter_map(|(number, name)| Some((number, name?.to_string()))).collect()
+    }
+
     /// Whether a name is a variable's that has been given a number.
     fn is_shared(&self, name: &str) -> bool {
         matches!(self.meanings.get(name), Some(Meaning::Variable(_)))
@@ -403,6 +408,8 @@ mod tests {
             .map(|name| names.variable(name, AT).unwrap())
             .collect();
         assert_eq!(numbers, [8, 9, 10, 8, 7, 0, 64]);
+        let called = [(0, "juice"), (8, "a"), (9, "pressure"), (10, "b")];
+        assert_eq!(names.called(), called.map(|(number, name)| (number, name.to_string())).into());
     }
 
     #[test]

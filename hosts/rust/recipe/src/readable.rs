@@ -45,7 +45,8 @@ impl<'a> Assembler<'a> {
             self.faults.push(Fault::new(Position::START, "the recipe has no procedure"));
         }
         if self.faults.is_empty() {
-            Ok(Assembled { records: self.records, warnings: self.names.unused() })
+            let (warnings, variables) = (self.names.unused(), self.names.called());
+            Ok(Assembled { records: self.records, warnings, variables })
         } else {
             Err(self.faults)
         }

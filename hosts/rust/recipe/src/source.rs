@@ -119,19 +119,19 @@ impl Faults {
 
     /// Each fault with the file's name, its line and a mark, and how many more there are.
     pub fn show(&self, file: &str, text: &str) -> String {
-        let more = self.and_more().map(|more| format!("... {more}"));
-        self.told.iter().map(|fault| fault.show(file, text)).chain(more).collect::<Vec<_>>().join("\n")
+        self.told.iter().map(|fault| fault.show(file, text)).chain(and_more(self.more)).collect::<Vec<_>>().join("\n")
     }
 
     /// The same without the text's lines; every line begins with the file's name.
     pub fn heads(&self, file: &str) -> String {
-        let more = self.and_more().map(|more| format!("{file}: ... {more}"));
+        let more = and_more(self.more).map(|more| format!("{file}: {more}"));
         self.told.iter().map(|fault| fault.head(file)).chain(more).collect::<Vec<_>>().join("\n")
     }
+}
 
-    fn and_more(&self) -> Option<String> {
-        (self.more > 0).then(|| format!("and {} more", self.more))
-    }
+/// The line behind those that are told, where there are more.
+pub fn and_more(more: usize) -> Option<String> {
+    (more > 0).then(|| format!("... and {more} more"))
 }
 
 impl From<Fault> for Faults {

@@ -1,5 +1,6 @@
 //! The records of a table.
 
+use std::collections::BTreeMap;
 use std::fmt;
 
 use recipe_runner::{RECORD, TABLE};
@@ -115,6 +116,8 @@ pub struct Placed {
 pub struct Assembled {
     pub records: Vec<Placed>,
     pub warnings: Faults,
+    /// What the text calls the shared variables, by their numbers; none in the table's own notation.
+    pub variables: BTreeMap<u8, String>,
 }
 
 /// The bytes of a table.
@@ -159,7 +162,7 @@ pub fn describe_lacking(table: &[u8], place: u32) -> String {
 }
 
 /// A record of the table at the head of a sentence about it; nothing where there is none.
-fn described(table: &[u8], place: u32) -> String {
+pub fn described(table: &[u8], place: u32) -> String {
     let record = decode(table).get(place as usize).copied();
     record.map_or(String::new(), |record| format!("record {place}, {record} ({}): ", record.word()))
 }

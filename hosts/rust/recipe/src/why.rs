@@ -63,7 +63,7 @@ impl Teller<'_> {
 }
 
 /// A statement as the text has it, with its line.
-fn statement(Source { text, records }: &Source, place: u16) -> Option<String> {
+fn statement(Source { text, records, .. }: &Source, place: u16) -> Option<String> {
     let Placed { record, at } = records.get(usize::from(place))?;
     let shown = if raw::is_raw(text) {
         record.to_string()

@@ -247,6 +247,47 @@ fn a_link_stays_a_link() {
     fs::remove_file(d.join("link")).unwrap();
 }
 
+/// Exit statuses, and the lines that end with them.
+const STATUSES: &[(i32, &[&str])] = &[
+    (0, &["run", "a.recipe"]),
+    (0, &["run", "a.recipe", "--steps", "8"]),
+    (3, &["run", "a.recipe", "--steps=7"]),
+    (3, &["run", "a.recipe", "--steps", "0"]),
+    (4, &["run", "stuck.recipe"]),
+    (5, &["run", "tasks.recipe"]),
+    (5, &["run", "spent.recipe", "--quiet"]),
+    (6, &["run", "share.recipe"]),
+    (1, &["run", "refused.table"]),
+    (0, &["check", "a.recipe"]),
+    (0, &["dis", "a.recipe"]),
+    (0, &["--version"]),
+    (0, &["-V"]),
+    (2, &[]),
+    (2, &["press"]),
+    (2, &["run", "missing.table"]),
+    (2, &["run", "."]),
+    (2, &["run", "a.recipe", "--bugdet", "5"]),
+    (2, &["run", "a.recipe", "--budget", "5"]),
+    (2, &["run", "a.recipe", "--log", "5"]),
+    (2, &["run", "a.recipe", "--strict"]),
+    (2, &["run", "a.recipe", "--steps", "-1"]),
+    (2, &["run", "a.recipe", "--slice", "0"]),
+    (2, &["run", "a.recipe", "--slice", "16777217"]),
+    (2, &["run", "a.recipe", "--slice"]),
+    (2, &["run", "a.recipe", "a.recipe"]),
+    (2, &["run", "a.recipe", "--resume", "missing"]),
+    (2, &["run", "a.recipe", "--save", "-"]),
+    (2, &["run", "a.recipe", "--save", "a.recipe"]),
+    (1, &["why", "a.recipe", "a.recipe"]),
+    (2, &["why", "a.recipe"]),
+    (2, &["why", "a.recipe", "missing"]),
+    (2, &["makers", "a.recipe", "press", "wring"]),
+    (2, &["makers", "a.recipe", "press"]),
+    (1, &["makers", "refused.table", "1", "2"]),
+    (2, &["asm", "missing.recipe"]),
+    (2, &["help", "press"]),
+];
+
 #[test]
 fn exit_statuses() {
     let d = directory("statuses");
@@ -257,44 +298,9 @@ fn exit_statuses() {
     fs::write(d.join("tasks.recipe"), "procedure main\n  while 1\n    spawn x main 0\n").unwrap();
     fs::write(d.join("spent.recipe"), SPENT).unwrap();
     let before = files(&d);
-    for (due, arguments) in [
-        (0, &["run", "a.recipe"][..]),
-        (0, &["run", "a.recipe", "--steps", "8"]),
-        (3, &["run", "a.recipe", "--steps=7"]),
-        (3, &["run", "a.recipe", "--steps", "0"]),
-        (4, &["run", "stuck.recipe"]),
-        (5, &["run", "tasks.recipe"]),
-        (5, &["run", "spent.recipe", "--quiet"]),
-        (6, &["run", "share.recipe"]),
-        (1, &["run", "refused.table"]),
-        (0, &["check", "a.recipe"]),
-        (0, &["dis", "a.recipe"]),
-        (0, &["--version"]),
-        (0, &["-V"]),
-        (2, &[]),
-        (2, &["press"]),
-        (2, &["run", "missing.table"]),
-        (2, &["run", "."]),
-        (2, &["run", "a.recipe", "--bugdet", "5"]),
-        (2, &["run", "a.recipe", "--budget", "5"]),
-        (2, &["run", "a.recipe", "--log", "5"]),
-        (2, &["run", "a.recipe", "--strict"]),
-        (2, &["run", "a.recipe", "--steps", "-1"]),
-        (2, &["run", "a.recipe", "--slice", "0"]),
-        (2, &["run", "a.recipe", "--slice", "16777217"]),
-        (2, &["run", "a.recipe", "--slice"]),
-        (2, &["run", "a.recipe", "a.recipe"]),
-        (2, &["run", "a.recipe", "--resume", "missing"]),
-        (2, &["run", "a.recipe", "--save", "-"]),
-        (2, &["run", "a.recipe", "--save", "a.recipe"]),
-        (1, &["why", "a.recipe", "a.recipe"]),
-        (2, &["why", "a.recipe"]),
-        (2, &["why", "a.recipe", "missing"]),
-        (2, &["asm", "missing.recipe"]),
-        (2, &["help", "press"]),
-    ] {
+    for (due, arguments) in STATUSES {
         let output = recipe(&d, arguments, b"");
-        assert_eq!(status(&output), due, "{arguments:?}");
+        assert_eq!(status(&output), *due, "{arguments:?}");
         // Of a stuck run and of a zero divisor it is told why.
         let quiet = matches!(due, 0 | 3 | 5);
         assert_eq!(output.stderr.is_empty(), quiet, "{arguments:?}: {}", stderr(&output));
@@ -305,7 +311,7 @@ fn exit_statuses() {
 #[test]
 fn help_is_given() {
     let d = directory("help");
-    for command in ["asm", "dis", "check", "run", "why", "state", "timeline"] {
+    for command in ["asm", "dis", "check", "run", "why", "makers", "state", "timeline"] {
         for arguments in [&[command, "--help"][..], &[command, "x", "-h"], &["help", command]] {
             let output = recipe(&d, arguments, b"");
             assert_eq!(status(&output), 0);

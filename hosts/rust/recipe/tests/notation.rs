@@ -3,10 +3,9 @@
 mod common;
 
 use std::fs;
-use std::path::{Path, PathBuf};
 use std::time::{Duration, Instant};
 
-use common::{directory, recipe, status, stderr, stdout, Generator, Random};
+use common::{directory, recipe, root, status, stderr, stdout, Generator, Random};
 use recipe::asm::{assemble, placed};
 use recipe::source::{Faults, TOLD};
 use recipe::table::{decode, depths};
@@ -25,10 +24,6 @@ fn warned(text: &str) -> Vec<String> {
 
 fn lines(faults: &Faults) -> Vec<String> {
     faults.heads("").lines().map(String::from).collect()
-}
-
-fn root(path: &str) -> PathBuf {
-    Path::new(env!("CARGO_MANIFEST_DIR")).join("../../..").join(path)
 }
 
 /// The texts of the recipes that come with the tool.

@@ -6,7 +6,7 @@ use std::path::{Path, PathBuf};
 use recipe::asm::assemble;
 use recipe_runner::{Ending, State};
 
-const RECIPES: [(&str, Ending, u32); 11] = [
+const RECIPES: [(&str, Ending, u32); 12] = [
     ("a", Ending::Finished, 8),
     ("b", Ending::Finished, 9),
     ("c", Ending::Finished, 3),
@@ -18,6 +18,7 @@ const RECIPES: [(&str, Ending, u32); 11] = [
     ("guard", Ending::Finished, 22),
     ("novalue", Ending::Novalue { place: 5 }, 2),
     ("optional", Ending::Finished, 29),
+    ("makers", Ending::Finished, 56),
 ];
 
 fn directory() -> PathBuf {

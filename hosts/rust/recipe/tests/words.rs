@@ -25,7 +25,7 @@ fn with_files(name: &str) -> PathBuf {
 }
 
 /// Each command that takes a table.
-const TAKERS: [&[&str]; 5] = [&["check"], &["run"], &["dis"], &["why"], &["timeline"]];
+const TAKERS: [&[&str]; 6] = [&["check"], &["run"], &["dis"], &["why"], &["makers"], &["timeline"]];
 
 #[test]
 fn other_files_are_told_by_each_command() {
@@ -42,8 +42,12 @@ fn other_files_are_told_by_each_command() {
         ("long", "refused 11 0", "the table's bytes are more than 32,768"),
     ] {
         for taker in TAKERS {
-            let state: &[&str] = if taker == ["why"] { &["state"] } else { &[] };
-            let output = recipe(&d, &[taker, &[file], state].concat(), b"");
+            let more: &[&str] = match taker[0] {
+                "why" => &["state"],
+                "makers" => &["1", "2"],
+                _ => &[],
+            };
+            let output = recipe(&d, &[taker, &[file], more].concat(), b"");
             let told = format!("{file}: {refusal}: {sentence}\n");
             let printed = match taker[0] {
                 "check" => told.clone(),
@@ -66,6 +70,7 @@ fn a_directory_is_told_as_one() {
         &["dis", "folder"],
         &["why", "folder", "state"],
         &["why", "a.table", "folder"],
+        &["makers", "folder", "1", "2"],
         &["timeline", "folder"],
         &["state", "folder"],
         &["asm", "folder"],

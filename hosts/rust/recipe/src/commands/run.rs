@@ -23,6 +23,7 @@ const LONGEST_SLICE: u32 = 1 << 24;
 pub const RUN: Options = Options {
     command: "run",
     files: &["FILE"],
+    lists: &[],
     valued: &["--steps", "--slice", "--save", "--resume"],
     flags: &["--quiet", "--force"],
 };
@@ -133,7 +134,7 @@ fn ending_words(loaded: &Loaded, state: &State, ending: Ending) -> Vec<String> {
 /// Which statement has no value: with its line where the text is at hand, else by its record.
 fn lacking(Loaded { name, table, source }: &Loaded, place: u32) -> String {
     match source {
-        Some(Source { text, records }) => asm::lacking(place, records).show(name, text),
+        Some(Source { text, records, .. }) => asm::lacking(place, records).show(name, text),
         None => format!("{name}: {}", describe_lacking(table, place)),
     }
 }

@@ -22,6 +22,7 @@ const RECORDS: u32 = 1_000_000;
 pub const TIMELINE: Options = Options {
     command: "timeline",
     files: &["FILE"],
+    lists: &[],
     valued: &["--steps", "--from", "--to", "--resume", "-o"],
     flags: &["--force"],
 };

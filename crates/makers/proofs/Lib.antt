@@ -1,0 +1,11 @@
+pub mod Uses
+pub mod Alone
+pub mod Link
+pub mod Steps
+pub mod Premises
+pub mod Opening
+pub mod Runs
+pub mod Bytes
+pub mod Theorem
+pub mod Pairs
+pub mod Rows
