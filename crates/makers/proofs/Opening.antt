@@ -37,6 +37,12 @@ zeros = record { issued = 1; variables = replicate 64 (pos 0) }
 abbrev pub first_alone : (ℕ → Body) → ℕ → ℤ → PaperState
 first_alone begin p z = idle (task 1 (begin p) z ∷ []) zeros
 
+-- the procedure p of the maker's is spawned first or second, with the argument z, and one of the other maker's beside it
+abbrev pub Firsts : (pump drum : ℕ → Bool) → Starts → Starts → ℕ → ℤ → Type 0
+Firsts pump drum s t p z =
+    ((pump s.procedure ≡ true) × (drum t.procedure ≡ true) × (s.procedure ≡ p) × (s.argument ≡ z))
+    ⊎ ((drum s.procedure ≡ true) × (pump t.procedure ≡ true) × (t.procedure ≡ p) × (t.argument ≡ z))
+
 module _ (k : Side) (drum : ℕ → Bool) (full : Limits) (r : Recipe) where
   open k use {role, mine, pump, begin}
 
@@ -121,11 +127,7 @@ module _ (k : Side) (drum : ℕ → Bool) (full : Limits) (r : Recipe) where
     unfolding AllB
     main_ends = tt
 
-    -- the maker's first task, and its argument
-    abbrev pub Firsts : Starts → Starts → ℕ → ℤ → Type 0
-    Firsts s t p z = ((pump s.procedure ≡ true) × (drum t.procedure ≡ true) × (s.procedure ≡ p) × (s.argument ≡ z)) ⊎ ((drum s.procedure ≡ true) × (pump t.procedure ≡ true) × (t.procedure ≡ p) × (t.argument ≡ z))
-
-    inv_opened : (s t : Starts) (p : ℕ) (z : ℤ) → role s.name ≡ others → role t.name ≡ others → Firsts s t p z → InvR (opened s t) (first_alone begin p z)
+    inv_opened : (s t : Starts) (p : ℕ) (z : ℤ) → role s.name ≡ others → role t.name ≡ others → Firsts pump drum s t p z → InvR (opened s t) (first_alone begin p z)
     inv_opened s t p z hs ht (inl f) =
         drumming refl (ap (λ (p : ℕ). first_alone begin p z) (sym f.2) ∙ ap (λ (z : ℤ). first_alone begin s.procedure z) (sym f.3) ∙ ap (λ (b : Body). idle (task 1 b s.argument ∷ []) zeros) (sym (given s.procedure f.0)))
         (first_link 2 s.name t.name (omega arith) (omega arith) hs ht) main_ends (no_task 2 1 (λ e. omega arith) (omega arith))
@@ -138,5 +140,5 @@ module _ (k : Side) (drum : ℕ → Bool) (full : Limits) (r : Recipe) where
     -- from the initial configuration on
     pub at_first : (s t : Starts) (p : ℕ) (z : ℤ) (c : PaperState)
         → c ≡ running (task 1 (spawn s.name s.procedure (constant s.argument) ▸ (spawn t.name t.procedure (constant t.argument) ▸ fin)) (pos 0)) [] zeros
-        → eqb s.name 64 ≡ false → eqb t.name 64 ≡ false → role s.name ≡ others → role t.name ≡ others → Firsts s t p z → Stage c (first_alone begin p z)
+        → eqb s.name 64 ≡ false → eqb t.name 64 ≡ false → role s.name ≡ others → role t.name ≡ others → Firsts pump drum s t p z → Stage c (first_alone begin p z)
     at_first s t p z c e hs ht os ot f = two_left s t e hs ht (inv_opened s t p z os ot f)

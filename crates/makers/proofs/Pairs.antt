@@ -8,10 +8,10 @@ use mathlib.Core.List.{List, [], ◌∷◌, ◌++◌, map}
 use native.Mathlib.Omega.{arith}
 use lib.Dec.{eqb}
 use lib.IntN.{ℤ, pos, negsuc}
-use lib.ListN.{replicate}
+use lib.ListN.{get_or, replicate}
 use borrow.Author.Tests.{eq-eqb}
 use Rattle.rules.specs.Values.{equal}
-use Rattle.rules.specs.Recipe.{Recipe, encode_e, encode_s, encode_b, encode}
+use Rattle.rules.specs.Recipe.{Body, fin, Recipe, encode_e, encode_s, encode_b, encode}
 use Rattle.rules.specs.Run.{Outcome, start_on, run_on}
 use Rattle.rules.specs.Fairness.{Every}
 use Rattle.rules.specs.Demand.{Given, outcomes, logs_written, numbers_said}
@@ -187,11 +187,15 @@ two_makers r pump drum h = go (all_pass 1 (tests r pump drum) h)
 abbrev pub BreaksNone : Pair → Type 0
 BreaksNone x = (x.breaks ≡ []) × (x.other_breaks ≡ [])
 
+none_broken : (xs : List Pair) → map (λ x. x.breaks ∷ x.other_breaks ∷ []) xs ≡ map (λ x. [] ∷ [] ∷ []) xs → Every BreaksNone xs
+none_broken xs e =
+    every_map (λ x. (x.breaks ∷ x.other_breaks ∷ []) ≡ [] ∷ [] ∷ []) BreaksNone (λ x h. (cc, cc)) xs (each (λ x. x.breaks ∷ x.other_breaks ∷ []) (λ x. [] ∷ [] ∷ []) xs e)
+
 pub kept_none : Every BreaksNone kept
-kept_none = ((refl, refl), ((refl, refl), ((refl, refl), ((refl, refl), ((refl, refl), ((refl, refl), ((refl, refl), ((refl, refl), ((refl, refl), tt)))))))))
+kept_none = none_broken kept refl
 
 pub differing_none : Every BreaksNone differing
-differing_none = ((refl, refl), ((refl, refl), tt))
+differing_none = none_broken differing refl
 
 pub meet : (x : Pair) → AsTold x → BreaksNone x → Meet x
 meet x e h = (
@@ -201,13 +205,29 @@ meet x e h = (
 
 -- ---- pairs that differ only in the other maker's procedures
 
+-- the main block and the procedures of these numbers
+abbrev bodies : Recipe → List ℕ → List Body
+bodies r ps = get_or r 0 fin ∷ map (λ p. get_or r p fin) ps
+
+abbrev here : Pair → List Body
+here x = bodies (spelt x.recipe) x.own
+
+abbrev there : Pair → List Body
+there x = bodies (spelt x.other) x.own
+
+share : (x : Pair) → here x ≡ there x → Share x
+share x e =
+    let f : ℕ → Body = λ p. get_or (spelt x.recipe) p fin in
+    let g : ℕ → Body = λ p. get_or (spelt x.other) p fin in
+    record { main = cc; procedures = every_map (λ p. f p ≡ g p) _ (λ p h. cc) x.own (each f g x.own cc) }
+
 pub kept_share : Every Share kept
 unfolding meaning encode_e encode_s encode_b encode
-kept_share = (record { main = refl; procedures = (refl, (refl, tt)) }, (record { main = refl; procedures = (refl, (refl, tt)) }, (record { main = refl; procedures = (refl, (refl, tt)) }, (record { main = refl; procedures = (refl, (refl, tt)) }, (record { main = refl; procedures = (refl, (refl, tt)) }, (record { main = refl; procedures = (refl, (refl, tt)) }, (record { main = refl; procedures = (refl, (refl, tt)) }, (record { main = refl; procedures = (refl, (refl, tt)) }, (record { main = refl; procedures = (refl, (refl, tt)) }, tt)))))))))
+kept_share = every_map (λ x. here x ≡ there x) Share share kept (each here there kept refl)
 
 pub broken_share : Every Share broken
 unfolding meaning encode_e encode_s encode_b encode
-broken_share = (record { main = refl; procedures = (refl, (refl, tt)) }, (record { main = refl; procedures = (refl, (refl, tt)) }, (record { main = refl; procedures = (refl, (refl, tt)) }, (record { main = refl; procedures = (refl, (refl, tt)) }, (record { main = refl; procedures = (refl, (refl, tt)) }, (record { main = refl; procedures = (refl, (refl, tt)) }, (record { main = refl; procedures = (refl, (refl, tt)) }, (record { main = refl; procedures = (refl, (refl, tt)) }, (record { main = refl; procedures = (refl, (refl, tt)) }, (record { main = refl; procedures = (refl, (refl, tt)) }, (record { main = refl; procedures = (refl, (refl, tt)) }, (record { main = refl; procedures = (refl, (refl, tt)) }, tt))))))))))))
+broken_share = every_map (λ x. here x ≡ there x) Share share broken (each here there broken refl)
 
 -- ---- records of which neither are the beginning of the other
 

@@ -202,10 +202,14 @@ opens_as (s ▸ b) ss h = go (starts_s s) (starts_of b) refl refl h (opens_as b)
         let i : t ∷ ts ≡ ss = cc in
         ap₂ (λ (s : Stmt) (b : Body). s ▸ b) (is_starts s t e) (k ts f) ∙ ap body_of i
 
+-- one procedure of either maker's, in either order
+abbrev pub Each : (pump drum : List ℕ) → (p q : ℕ) → Type 0
+Each pump drum p q = ((among p pump ≡ true) × (among q drum ≡ true)) ⊎ ((among p drum ≡ true) × (among q pump ≡ true))
+
 -- "one procedure of each .. into variables that nobody else names", the first and the second
 pub record Main (r : Recipe) (pump drum : List ℕ) (s t : Starts) : Type 0 where
   pub block : get_or r 0 fin ≡ spawn s.name s.procedure (constant s.argument) ▸ (spawn t.name t.procedure (constant t.argument) ▸ fin)
-  pub each : ((among s.procedure pump ≡ true) × (among t.procedure drum ≡ true)) ⊎ ((among s.procedure drum ≡ true) × (among t.procedure pump ≡ true))
+  pub each : Each pump drum s.procedure t.procedure
   pub first_unnamed : unnamed r pump drum s.name ≡ true
   pub second_unnamed : unnamed r pump drum t.name ≡ true
 

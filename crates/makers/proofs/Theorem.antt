@@ -38,8 +38,8 @@ use Rattle.makers.specs.Claim.{settings_in, OneBegins, FromFresh, Undisturbed, K
 use Rattle.makers.proofs.Uses.{is_in, all_of}
 use Rattle.makers.proofs.Alone.{first_settings, either_begins}
 use Rattle.makers.proofs.Link.{plain, held, others, plain-others, held-others, PumpU, DrumU, Side, Shares}
-use Rattle.makers.proofs.Premises.{not_yes, among_every, not_both, role, other_role, pump_use, drum_use, disjoint_sym, names_same, Main, main_is, swapped}
-use Rattle.makers.proofs.Opening.{zeros, first_alone, at_first}
+use Rattle.makers.proofs.Premises.{not_yes, among_every, not_both, role, other_role, pump_use, drum_use, disjoint_sym, names_same, Each, Main, main_is, swapped}
+use Rattle.makers.proofs.Opening.{zeros, first_alone, Firsts, at_first}
 use Rattle.makers.proofs.Runs.{settings, simulated}
 use Rattle.makers.proofs.Bytes.{below, bytes, settings_read, one_begins}
 
@@ -83,8 +83,7 @@ record First (r : Recipe) (pump drum : List ℕ) : Type 0 where
   main : Main r pump drum first second
   procedure : ℕ
   argument : ℤ
-  firsts : ((among first.procedure pump ≡ true) × (among second.procedure drum ≡ true) × (first.procedure ≡ procedure) × (first.argument ≡ argument))
-      ⊎ ((among first.procedure drum ≡ true) × (among second.procedure pump ≡ true) × (second.procedure ≡ procedure) × (second.argument ≡ argument))
+  firsts : Firsts (is_in pump) (is_in drum) first second procedure argument
 
 unnamed_is : (r : Recipe) (pump drum : List ℕ) (n : ℕ) → unnamed r pump drum n ≡ true → (eqb n 64 ≡ false) × (names r pump n ≡ false)
 unnamed_is r pump drum n h =
@@ -135,7 +134,7 @@ record SameFirst (r r' : Recipe) (pump drum drum' : List ℕ) (f : First r pump 
 a_first : (r : Recipe) (pump drum : List ℕ) → TwoMakers r pump drum → First r pump drum
 a_first r pump drum m = let (s, t, h) = main_is r pump drum m.main in go s t h h.each
   where
-    go : (s t : Starts) → Main r pump drum s t → ((among s.procedure pump ≡ true) × (among t.procedure drum ≡ true)) ⊎ ((among s.procedure drum ≡ true) × (among t.procedure pump ≡ true)) → First r pump drum
+    go : (s t : Starts) → Main r pump drum s t → Each pump drum s.procedure t.procedure → First r pump drum
     go s t h (inl e) = record { first = s; second = t; main = h; procedure = s.procedure; argument = s.argument; firsts = inl (e.0, e.1, refl, refl) }
     go s t h (inr e) = record { first = s; second = t; main = h; procedure = t.procedure; argument = t.argument; firsts = inr (e.0, e.1, refl, refl) }
 
@@ -160,10 +159,7 @@ same_first r r' pump drum drum' m' k f = let (s', t', h') = main_is r' pump drum
         let e : (spawn s.name s.procedure (constant s.argument) ▸ (spawn t.name t.procedure (constant t.argument) ▸ fin)) ≡ (spawn s'.name s'.procedure (constant s'.argument) ▸ (spawn t'.name t'.procedure (constant t'.argument) ▸ fin)) = sym f.main.block ∙ k.main ∙ h.block in
         record { first_procedure = cc; first_argument = cc; second_procedure = cc; second_argument = cc }
 
-    go : (s' t' : Starts) → Main r' pump drum' s' t'
-        → ((among s'.procedure pump ≡ true) × (among t'.procedure drum' ≡ true)) ⊎ ((among s'.procedure drum' ≡ true) × (among t'.procedure pump ≡ true))
-        → ((among s.procedure pump ≡ true) × (among t.procedure drum ≡ true) × (s.procedure ≡ f.procedure) × (s.argument ≡ f.argument)) ⊎ ((among s.procedure drum ≡ true) × (among t.procedure pump ≡ true) × (t.procedure ≡ f.procedure) × (t.argument ≡ f.argument))
-        → SameFirst r r' pump drum drum' f
+    go : (s' t' : Starts) → Main r' pump drum' s' t' → Each pump drum' s'.procedure t'.procedure → Firsts (is_in pump) (is_in drum) s t f.procedure f.argument → SameFirst r r' pump drum drum' f
     go s' t' h (inl e) (inl g) =
         let a = agree s' t' h in
         record {

@@ -96,6 +96,7 @@ is_set n (awaits_it m) = false
 abbrev pub by_spawn_alone : Recipe → List ℕ → ℕ → Bool
 by_spawn_alone r ps n = leb 8 n && leb n 63 && every_use r ps (λ u. not (is_set n u))
 
+-- what is awaited or spawned into is such a variable
 abbrev pub holds_spawned : Recipe → List ℕ → Use → Bool
 holds_spawned r ps (reads n) = true
 holds_spawned r ps (sets n) = true

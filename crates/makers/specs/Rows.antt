@@ -271,22 +271,8 @@ kept =
 -- run by one call each
 abbrev pub broken_pair_of : Maker → (breaks other_breaks : List ℕ) → (r r' : Recipe) → (settings other_settings : List Setting) → Pair
 broken_pair_of m f f' r r' xs ys =
-    record {
-      maker = m;
-      own = procedures m;
-      others = other_procedures m;
-      other_others = other_procedures m;
-      recipe = r;
-      other = r';
-      calls = one_call;
-      other_calls = one_call;
-      breaks = f;
-      other_breaks = f';
-      settings = xs;
-      other_settings = ys;
-      ends = 0;
-      other_ends = 0;
-    }
+    let x = kept_pair m r r' one_call one_call xs ys in
+    record x { breaks = f; other_breaks = f' }
 
 abbrev pub broken_pair : (breaks other_breaks : List ℕ) → (r r' : Recipe) → (settings other_settings : List Setting) → Pair
 broken_pair f f' r r' xs ys = broken_pair_of pump_maker f f' r r' xs ys
