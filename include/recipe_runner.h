@@ -28,8 +28,8 @@
  *
  * Stack
  *   Have 16,384 bytes of stack free for each call, whatever the table
- *   holds. Measured on x86-64: at most 15,335 bytes in recipe_run, 4,503 in
- *   recipe_start, 15,511 in recipe_why_stuck and 3,367 in recipe_check_all,
+ *   holds. Measured on x86-64: at most 15,367 bytes in recipe_run, 3,399 in
+ *   recipe_start, 15,479 in recipe_why_stuck and 3,367 in recipe_check_all,
  *   rounded up here to the next 4 KiB.
  *
  * What the archive needs

@@ -286,7 +286,8 @@ fn put_variables(b: &mut [u8; 776], variables: &[i32; 64])
     }
 }
 
-// The block of a state.
+// The block of a state. Inlined, so that of a fresh state it writes what the compiler knows.
+#[inline(always)]
 pub fn write(s: &State, block: &mut [u8])
     requires { length block.old ≡ 776 }
     ensures { block.new ≡ write_block (view s.now) }

@@ -50,6 +50,7 @@ impl From<Halt> for Stop {
         match halt {
             Halt::Tasks => Stop::Tasks,
             Halt::Spent => Stop::Spent,
+            Halt::NoValue => Stop::NoValue,
         }
     }
 }
@@ -101,8 +102,9 @@ pub fn decide(
     if n.steps == bounds.budget {
         return Err(Stop::Paused);
     }
+    // `outcome_of` asks this too. Asked here as well, the move is at hand where it is given back.
     let m = m.ok_or(Stop::NoValue)?;
-    let after = match outcome_of(m, number, bounds.queued, bounds.issued)? {
+    let after = match outcome_of(Some(m), number, bounds.queued, bounds.issued)? {
         Some(e) => note(e, log, n)?,
         None => Count {
             steps: n.steps + 1,

@@ -6,13 +6,13 @@ use Rattle.std.proofs.Math.Option.{Option, none, some}
 use Rattle.rules.specs.Fields.{bytes2, bytes4}
 use Rattle.rules.specs.State.{Task, Store}
 use Rattle.rules.specs.Log as L
-use Rattle.rules.specs.Scheduler.{Halt, tasks, spent, Act, halts, does}
+use Rattle.rules.specs.Scheduler.{Halt, tasks, spent, novalue, Act, halts, does}
 use Rattle.moves.specs.declared.Move.{Move}
 use Rattle.events.specs.declared.Event.{Event}
 use Rattle.events.specs.declared.Event.TheVariants.{Spawned, Taken, Gave, Waits, Turned, Ended, Valve}
 use Rattle.events.specs.declared.Halt as E
-use Rattle.events.specs.declared.Halt.TheVariants.{Tasks, Spent}
-use Rattle.moves.specs.Moves.{act_of}
+use Rattle.events.specs.declared.Halt.TheVariants.{Tasks, Spent, NoValue}
+use Rattle.moves.specs.Moves.{act_in}
 
 abbrev pub event_of : Event → L.Event
 event_of (Spawned t n) = L.spawned t n
@@ -31,6 +31,7 @@ pub data Facts : Type 0 where
 abbrev pub halt_of : E.Halt → Halt
 halt_of Tasks = tasks
 halt_of Spent = spent
+halt_of NoValue = novalue
 
 abbrev pub facts_of : P.Result (P.Option Event) E.Halt → Facts
 facts_of (P.Ok (P.Some e)) = went (some (event_of e))
@@ -41,10 +42,11 @@ abbrev pub facts : Act Store (Task ℕ) L.Event → Facts
 facts (halts l) = stopped l
 facts (does s new y x) = went x
 
--- the outcome is what the move says of a step of any task of this number, with so many tasks queued and this number issued
-pub record Tells (number queued issued : ℕ) (m : Move) (r : P.Result (P.Option Event) E.Halt) : Type 0 where
+-- the outcome is what the move, if there is one, says of a step of any task of this number, with so
+-- many tasks queued and this number issued
+pub record Tells (number queued issued : ℕ) (m : P.Option Move) (r : P.Result (P.Option Event) E.Halt) : Type 0 where
   pub tells : (s : Store) (q : List (Task ℕ)) (t : Task ℕ) → s.issued ≡ issued → length q ≡ queued → t.number ≡ number
-      → facts_of r ≡ facts (act_of m s q t)
+      → facts_of r ≡ facts (act_in m s q t)
 
 -- the bytes of a log record whose value has these 32 bits
 abbrev pub row_of : (kind valve task word : ℕ) → List ℕ

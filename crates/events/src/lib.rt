@@ -27,18 +27,23 @@ pub enum Event {
 // The small facts of a step: it went on, with its log event if it has one, or the stop's name.
 pub type Outcome = Result<Option<Event>, Halt>;
 
-// The limits that stop an active task's move.
+// What stops an active task's move: a limit, or that a value is missing and there is no move.
 #[derive(Clone, Copy)]
 pub enum Halt {
     Tasks,
     Spent,
+    NoValue,
 }
 
-// What a move of the task of this number comes to, with so many tasks queued and this number issued. (kept: 8, the first name behind the valves', as the table
+// What a move of the task of this number comes to, with so many tasks queued and this number
+// issued; without one a value is missing. (kept: 8, the first name behind the valves', as the table
 // has it.)
-pub fn outcome_of(m: Move, number: u16, queued: usize, issued: u16) -> Outcome
+pub fn outcome_of(m: Option<Move>, number: u16, queued: usize, issued: u16) -> Outcome
     ensures { Tells number queued issued m result }
 {
+    let Some(m) = m else {
+        return Err(Halt::NoValue);
+    };
     let event = match m {
         Move::Goes(_) => return Ok(None),
         Move::Sets(name, v, _) => {

@@ -178,11 +178,17 @@ impl State {
             parameter: 0,
             history: History::spawned_by(0),
         };
+        // Zero bytes, as the array is filled with them at one go.
+        let none = Task {
+            number: 0,
+            place: 0,
+            ..first
+        };
         State {
             issued: 1,
             active: Some(first),
             queue: Queue {
-                tasks: [first; 32],
+                tasks: [none; 32],
                 front: 0,
                 len: 0,
             },

@@ -63,13 +63,14 @@ impl Kind {
     fn name_fits(self, name: u8) -> bool
         ensures { result ≡ (leb (kind_row (number_of self)).least name && leb name (kind_row (number_of self)).most) }
     {
-        match self {
-            Kind::Set | Kind::Await | Kind::Variable => name <= 64,
-            Kind::Spawn => 8 <= name && name <= 64,
-            Kind::Binary => name <= 7,
-            Kind::Unary => name <= 1,
-            _ => name == 0,
-        }
+        // Only a spawn's least name is not 0. Limits are looked up; tests would make a jump.
+        let most = match self {
+            Kind::Set | Kind::Spawn | Kind::Await | Kind::Variable => 64,
+            Kind::Binary => 7,
+            Kind::Unary => 1,
+            _ => 0,
+        };
+        name <= most && (self != Kind::Spawn || 8 <= name)
     }
 
     fn value_fits(self, value: u32) -> bool
@@ -233,13 +234,20 @@ fn check_rows(part: &[u8], sort: Sort, at: usize, left: usize) -> Result<(), Ref
                 i += 1;
                 continue;
             }
+            // A body without statements costs no call.
             Encloses::Statements => {
-                check_rows(enclosed(rest), Sort::Statement, i + 1, left - 1)?;
+                let body = enclosed(rest);
+                if !body.is_empty() {
+                    check_rows(body, Sort::Statement, i + 1, left - 1)?;
+                }
             }
             Encloses::ExpressionStatements => {
                 let test = enclosed(rest);
-                let next = i + 2 + span_of(test);
-                check_rows(beyond(test), Sort::Statement, next, left - 1)?;
+                let body = beyond(test);
+                if !body.is_empty() {
+                    let next = i + 2 + span_of(test);
+                    check_rows(body, Sort::Statement, next, left - 1)?;
+                }
             }
             _ => {}
         }

@@ -12,6 +12,8 @@ use values::signed;
 
 // Each `put` writes a text from the byte `at` on and gives the index behind it. (kept: a lent buffer and an index. `print_recipe` promises what the buffer that
 // it is lent holds; a text of its own, as `ArrayString`, would be copied there, and of `write!` the library says what it wrote only where it succeeds.)
+// Inlined, so that a word of known length is stored without a call.
+#[inline(always)]
 pub fn put_word(b: &mut [u8], at: usize, word: &[u8]) -> usize
     requires { at + length word.now ≤ length b.old }
     ensures { Puts b.old at word.now result b.new }
@@ -65,10 +67,14 @@ fn put_spaced<I: Integer>(b: &mut [u8], at: usize, n: I) -> usize
     put_word(b, first, digits.format(n).as_bytes())
 }
 
+// A single digit, as many numbers of a log are, is written without a buffer for its digits.
 pub fn put_number(b: &mut [u8], at: usize, n: u32) -> usize
     requires { at + length (spaced n) ≤ length b.old }
     ensures { Puts b.old at (spaced n) result b.new }
 {
+    if n < 10 {
+        return put_word(b, at, &[b' ', b'0' + n as u8]);
+    }
     put_spaced(b, at, n)
 }
 
@@ -77,5 +83,8 @@ pub fn put_value(b: &mut [u8], at: usize, w: u32) -> usize
     requires { at + length (spaced_value (signed w)) ≤ length b.old }
     ensures { Puts b.old at (spaced_value (signed w)) result b.new }
 {
+    if w < 10 {
+        return put_number(b, at, w);
+    }
     put_spaced(b, at, signed(w))
 }

@@ -1,6 +1,6 @@
 -- The chain of a stuck state, as the code has it.
 -- Assumes nothing.
-use Rattle.std.specs.Prelude.{ℕ, suc, ◌<◌, ◌≡◌, Bool, false, List, [], ℤ, Result, Ok, Err, IfOk}
+use Rattle.std.specs.Prelude.{ℕ, suc, ◌<◌, ◌≡◌, Bool, false, List, [], ℤ, Result, Ok, Err, IfOk, take}
 use Rattle.std.specs.Prelude as P
 use Rattle.std.proofs.Math.Option.{Option, some}
 use Rattle.rules.specs.Recipe.{Recipe}
@@ -27,7 +27,7 @@ end_of E.NeverIssued = W.never_issued
 end_of E.UntrueGuard = W.untrue_guard
 
 abbrev pub chain_in : Chain → W.Chain
-chain_in x = record { numbers = x.numbers.items; end = end_of x.end }
+chain_in x = record { numbers = take x.count x.numbers; end = end_of x.end }
 
 -- the queued task whose number a value is, by its index; none, if there is none
 abbrev pub of_number : ℤ → Task ℕ → Bool

@@ -1,14 +1,13 @@
 // The chain of a stuck state: what each task waits for is followed, from the front of the queue to the end.
-ghost use Rattle.std.specs.Prelude.{◌≡◌, false, [], suc, ◌≤◌};
+ghost use Rattle.std.specs.Prelude.{◌≡◌, false, [], suc, ◌≤◌, length};
 ghost use Rattle.std.proofs.Math.Option.{some};
 ghost use Rattle.rules.specs.Table.{recipe_of};
 ghost use Rattle.rules.specs.Scheduler.{is_ready};
 ghost use Rattle.rules.specs.Steps.{recipes};
 ghost use Rattle.rules.specs.Why.{follow};
-ghost use Rattle.arrayvec.specs.ArrayVec.{array_vec_len};
 ghost use Rattle.state.specs.View.{entry, queue_of};
 ghost use Rattle.ready.specs.Ready.{readiness_of, idle};
-ghost use Rattle.why.specs.Follow.{chain_in, index_in, Holds, Following};
+ghost use Rattle.why.specs.Follow.{end_of, chain_in, index_in, Holds, Following};
 
 use arrayvec::ArrayVec;
 use ready::{Wait, natural, waiting_at};
@@ -23,11 +22,29 @@ pub enum End {
     UntrueGuard,
 }
 
-// The numbers of a chain, and how it ends.
-#[derive(Drop)]
+// The first `count` numbers are the chain's.
+#[derive(Clone, Copy)]
 pub struct Chain {
-    pub numbers: ArrayVec<u16, 33>,
+    pub numbers: [u16; 33],
+    pub count: usize,
     pub end: End,
+}
+
+impl Chain {
+    // The chain of these numbers, in an array: an ArrayVec is not Copy, and a chain is.
+    fn of(numbers: &[u16], end: End) -> Chain
+        requires { length numbers.now ≤ 33 }
+        ensures is { chain_in result ≡ record { numbers = numbers.now; end = end_of end } }
+        ensures fits { (result.count ≤ 33) × (length result.numbers ≡ 33) }
+    {
+        let mut all = [0; 33];
+        all[..numbers.len()].copy_from_slice(numbers);
+        Chain {
+            numbers: all,
+            count: numbers.len(),
+            end,
+        }
+    }
 }
 
 // The queued task whose number a value is, by its index from the front.
@@ -53,23 +70,20 @@ fn held_by(s: &State, wait: Wait) -> Result<usize, End>
 pub fn follow(table: Accepted, s: &State) -> Chain
     requires { Following table.bytes.now s.now }
     ensures follows { follow (recipes (recipe_of table.entry.bytes.now)) (suc s.now.queue.len) (idle s.now) [] (entry s.now.queue 0) ≡ some (chain_in result) }
-    ensures fits { array_vec_len result.numbers ≤ 33 }
+    ensures fits { (result.count ≤ 33) × (length result.numbers ≡ 33) }
 {
-    let mut numbers = ArrayVec::new();
+    let mut numbers = ArrayVec::<u16, 33>::new();
     let mut at: usize = 0; // the front
     loop {
         let x = waiting_at(table, s, at);
         let earlier = numbers.contains(&x.task.number);
         numbers.push(x.task.number);
         if earlier {
-            return Chain {
-                numbers,
-                end: End::NamedEarlier,
-            };
+            return Chain::of(&numbers, End::NamedEarlier);
         }
         match held_by(s, x.wait) {
             Ok(next) => at = next,
-            Err(end) => return Chain { numbers, end },
+            Err(end) => return Chain::of(&numbers, end),
         }
     }
 }

@@ -93,10 +93,10 @@ fn explain(table: Accepted, s: State, chain: &mut [u8]) -> Explained
         return Rule::NoChain.at(0).into();
     }
     let x = follow(table, &s);
-    put_numbers(chain, &x.numbers);
+    put_numbers(chain, &x.numbers[..x.count]);
     Explained {
         number: 0,
-        count: x.numbers.len() as u32,
+        count: x.count as u32,
         end: u32::from(x.end),
         place: 0,
     }

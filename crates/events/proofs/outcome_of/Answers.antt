@@ -7,18 +7,18 @@ use Rattle.events.proofs.outcome_of.Goals as goal
 
 pub returns-then-issued-eq65535 : goal.returns-then-issued-eq65535
 returns-then-issued-eq65535 c =
-    rw c.in-Spawns.is (spent-tells _ _ _ _ _ _ _ c.if-queued-ge31.false (omega arith))
+    rw (c.in-Some.is, c.in-Spawns.is) (spent-tells _ _ _ _ _ _ _ c.if-queued-ge31.false (omega arith))
 
 pub returns-then-name-ge8 : goal.returns-then-name-ge8
-returns-then-name-ge8 c = rw c.in-Sets.is (set_tells _ _ _ _ _ _ c.if-name-ge8.true)
+returns-then-name-ge8 c = rw (c.in-Some.is, c.in-Sets.is) (set_tells _ _ _ _ _ _ c.if-name-ge8.true)
 
 pub returns-else-issued-eq65535 : goal.returns-else-issued-eq65535
 returns-else-issued-eq65535 c =
-    rw c.in-Spawns.is
+    rw (c.in-Some.is, c.in-Spawns.is)
     (spawned-tells _ _ _ _ _ _ _ c.if-queued-ge31.false (omega (arith, c.ranges.issued)))
 
 pub returns-else-name-ge8 : goal.returns-else-name-ge8
-returns-else-name-ge8 c = rw (c.in-Sets.is, result32 {z = c.in-Sets.v} (omega arith)) (valve-tells _ _ _ _ _ _ c.if-name-ge8.false)
+returns-else-name-ge8 c = rw (c.in-Some.is, c.in-Sets.is, result32 {z = c.in-Sets.v} (omega arith)) (valve-tells _ _ _ _ _ _ c.if-name-ge8.false)
 
 pub returns-then-queued-ge31 : goal.returns-then-queued-ge31
-returns-then-queued-ge31 c = rw c.in-Spawns.is (tasks-tells _ _ _ _ _ _ _ c.if-queued-ge31.true)
+returns-then-queued-ge31 c = rw (c.in-Some.is, c.in-Spawns.is) (tasks-tells _ _ _ _ _ _ _ c.if-queued-ge31.true)

@@ -1,7 +1,7 @@
-use Rattle.std.proofs.Common.{ℕ, ◌*◌, List, ◌++◌, length, drop, sym, ap, ◌∙◌}
+use Rattle.std.proofs.Common.{sym, ap, ◌∙◌}
 use mathlib.Core.Bool.{true≢false}
 use Rattle.rules.specs.Table.{recipe_of}
-use Rattle.rules.specs.Why.{halves, unexplained}
+use Rattle.rules.specs.Why.{unexplained}
 use Rattle.table.specs.declared.refusal.Refusal.{Refusal}
 use Rattle.table.specs.Refusals.{rule_number}
 use Rattle.state.specs.View.{view}
@@ -33,5 +33,4 @@ returns c =
     let l = c.args.chain.now in
     let x = c.follow-x.result in
     let is = followed t s c.requires (c.is_stuck.ensures.0 c.if-not-is_stuck.false) (chain_in x) c.follow-x.ensures.follows in
-    let written = c.put_numbers.ensures ∙ ap (λ (ns : List ℕ). halves ns ++ drop (2 * length ns) l) c.deref.ensures.0 in
-    chain-told (recipe_of t) (view s) l x c.if-chain-ne66.false is c.len.result c.len.ensures.value c.from.result c.from.ensures _ written
+    chain-told (recipe_of t) (view s) l x c.follow-x.ensures.fits.0 c.follow-x.ensures.fits.1 c.if-chain-ne66.false is c.from.result c.from.ensures _ c.put_numbers.ensures

@@ -2,13 +2,12 @@ use Rattle.std.proofs.Common.{ℕ, suc, ◌+◌, ◌-◌, ◌<◌, ◌≡◌, Bo
 use Rattle.std.proofs.Math.Option.{some}
 use Rattle.std.specs.List.{list_any}
 use Rattle.std.specs.Prelude.{nat_eq}
-use Rattle.arrayvec.specs.ArrayVec.{ArrayVec}
 use Rattle.rules.specs.Recipe.{Recipe}
 use Rattle.rules.specs.Table.{recipe_of}
 use Rattle.rules.specs.State.{Task}
 use Rattle.rules.specs.Scheduler.{Readiness, is_ready, can_go}
 use Rattle.rules.specs.Steps.{recipes}
-use Rattle.rules.specs.Why.{chain, among, follow}
+use Rattle.rules.specs.Why.{Chain, chain, among, follow}
 use Rattle.state.specs.declared.State.{State}
 use Rattle.state.specs.View.{entry, queue_of}
 use Rattle.ready.specs.declared.Queued.{Queued}
@@ -16,7 +15,7 @@ use Rattle.ready.specs.Ready.{readiness_of, idle, Describes}
 use Rattle.ready.proofs.Queue.{every_at}
 use Rattle.why.specs.declared.follow.End.{End}
 use Rattle.why.specs.declared.follow.End.TheVariants.{NamedEarlier}
-use Rattle.why.specs.Follow.{end_of, chain_in, goes_on, Holds, Following}
+use Rattle.why.specs.Follow.{end_of, goes_on, Holds, Following}
 use Rattle.why.proofs.Naming.{among_is}
 use Rattle.why.proofs.Following.{closes, leads, more_left}
 use Rattle.why.proofs.follow.follow.Invariants.{start, Come}
@@ -50,11 +49,13 @@ module _ {table : List ℕ} {s : State} (p : Following table s) {at : ℕ} {ns :
   told {b} {l} e h = h ∙ among_is x.task.number l ∙ ap₂ among number_is e
 
   -- a chain that ends here
-  ends_so : (e : End) {new : ArrayVec ℕ} → new.items ≡ ns ++ x.task.number ∷ [] → start table s ≡ chain named (end_of e) → start table s ≡ some (chain_in (record { numbers = new; end = e }))
-  ends_so e is h = h ∙ ap (λ (l : List ℕ). chain l (end_of e)) (written is)
+  ends_so : (e : End) {new : List ℕ} → new ≡ ns ++ x.task.number ∷ [] → {y : Chain} → y ≡ record { numbers = new; end = end_of e }
+      → start table s ≡ chain named (end_of e) → start table s ≡ some y
+  ends_so e is made h = h ∙ ap (λ (l : List ℕ). chain l (end_of e)) (written is) ∙ ap some (sym made)
 
-  ends_again : {new : ArrayVec ℕ} → new.items ≡ ns ++ x.task.number ∷ [] → among task.number ns ≡ true → start table s ≡ some (chain_in (record { numbers = new; end = NamedEarlier }))
-  ends_again is h = ends_so NamedEarlier is (closes r (idle s) (length ns) s.queue.len ns task come.few (start table s) come.left h)
+  ends_again : {new : List ℕ} → new ≡ ns ++ x.task.number ∷ [] → {y : Chain} → y ≡ record { numbers = new; end = end_of NamedEarlier }
+      → among task.number ns ≡ true → start table s ≡ some y
+  ends_again is made h = ends_so NamedEarlier is made (closes r (idle s) (length ns) s.queue.len ns task come.few (start table s) come.left h)
 
   -- it was not named before: what follows behind it
   behind_it : among task.number ns ≡ false → {h : Result ℕ End} → Holds s.queue (readiness_of x.wait) h
@@ -84,7 +85,7 @@ pub returns-then-earlier-clause-follows : goal.returns-then-earlier-clause-follo
 returns-then-earlier-clause-follows c =
     let x = c.waiting_at-x.ensures in
     let come = c.loop-x.invariant in
-    ends_again c.requires come x c.push.ensures.items (sym (told c.requires come x c.deref.ensures.0 c.contains-earlier.ensures.value) ∙ c.if-earlier.true)
+    ends_again c.requires come x (c.deref-then-earlier.ensures.0 ∙ c.push.ensures.items) c.of.ensures.is (sym (told c.requires come x c.deref.ensures.0 c.contains-earlier.ensures.value) ∙ c.if-earlier.true)
 
 pub held_by-requires : goal.held_by-requires
 held_by-requires c = ap is_ready c.waiting_at-x.ensures.wait_is ∙ none_goes c.requires c.loop-x.invariant.queued
@@ -99,5 +100,5 @@ pub returns-in-Err-clause-follows : goal.returns-in-Err-clause-follows
 returns-in-Err-clause-follows c =
     let x = c.waiting_at-x.ensures in
     let come = c.loop-x.invariant in
-    ends_so c.requires come x c.in-Err.end c.push.ensures.items
+    ends_so c.requires come x c.in-Err.end (c.deref-in-Err.ensures.0 ∙ c.push.ensures.items) c.of-in-Err.ensures.is
     (behind_it c.requires come x (sym (told c.requires come x c.deref.ensures.0 c.contains-earlier.ensures.value) ∙ c.if-earlier.false) c.in-Err.ensures)
