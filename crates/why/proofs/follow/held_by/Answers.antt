@@ -4,6 +4,7 @@ use Rattle.why.specs.Follow.{index_in}
 use Rattle.why.proofs.Holding.{held_by_index}
 use Rattle.why.proofs.follow.held_by.Goals as goal
 
+-- a task that waits for a number is held by the queued task of that number, if there is one
 pub returns-in-Waits : goal.returns-in-Waits
 returns-in-Waits c =
     let q = c.args.s.now.queue in
