@@ -1,12 +1,10 @@
 -- What the tool answers, by what is found.
 -- Assumes nothing.
-use Prim.Native.Nat.{ℕ, ◌*◌, ◌≤◌}
+use Prim.Native.Nat.{ℕ, ◌*◌}
 use mathlib.Core.Path.{◌≡◌, refl, ap, ◌∙◌, subst, subst⁻¹}
 use mathlib.Core.Option.{Option, none, some}
 use mathlib.Core.List.{List, ◌++◌}
 use lib.ListN.{length, take, drop}
-use lib.Seq.{length-take-le}
-use native.Mathlib.Omega.{arith}
 use borrow.Author.Tests.{eq-eqb, ne_eqb}
 use Rattle.rules.specs.Recipe.{Recipe}
 use Rattle.rules.specs.Table.{fault, ◌else◌, check, recipe_of}
@@ -40,12 +38,11 @@ module _ (r : Recipe) (c : State) (l : List ℕ) where
       go none e = refl
       go (some x) e = absurd (g (chain-stuck r c f x e))
 
-  pub chain-told : (x : Chain) → x.count ≤ 33 → length x.numbers ≡ 33 → length l ≡ 66 → chain_of (recipes r) c ≡ some (chain_in x)
-      → (n : ℕ) → n ≡ end_number (end_of x.end) → (o : List ℕ) → o ≡ halves (take x.count x.numbers) ++ drop (2 * length (take x.count x.numbers)) l
-      → record { number = 0; count = x.count; end = n; place = 0; output = o } ≡ why_with (opens r c) l
-  chain-told x few many h e n is o written =
-      let k : length (take x.count x.numbers) ≡ x.count = length-take-le x.count x.numbers (omega arith) in
-      rw (eq-eqb (length l) 66 h, e, is, written, k) refl
+  pub chain-told : (x : Chain) → length l ≡ 66 → chain_of (recipes r) c ≡ some (chain_in x)
+      → (k : ℕ) → k ≡ length (take x.count x.numbers) → (n : ℕ) → n ≡ end_number (end_of x.end)
+      → (o : List ℕ) → o ≡ halves (take x.count x.numbers) ++ drop (2 * length (take x.count x.numbers)) l
+      → record { number = 0; count = k; end = n; place = 0; output = o } ≡ why_with (opens r c) l
+  chain-told x h e k counted n is o written = rw (eq-eqb (length l) 66 h, e, counted, is, written) refl
 
 -- ---- any table and any block
 

@@ -1,4 +1,7 @@
-use Rattle.std.proofs.Common.{sym, ap, ◌∙◌}
+use native.Mathlib.Omega.{arith}
+use lib.ListN.{length, take}
+use lib.Seq.{length-take-le}
+use Rattle.std.proofs.Common.{◌≡◌, sym, ap, ◌∙◌}
 use mathlib.Core.Bool.{true≢false}
 use Rattle.rules.specs.Table.{recipe_of}
 use Rattle.rules.specs.Why.{unexplained}
@@ -33,4 +36,5 @@ returns c =
     let l = c.args.chain.now in
     let x = c.follow-x.result in
     let is = followed t s c.requires (c.is_stuck.ensures.0 c.if-not-is_stuck.false) (chain_in x) c.follow-x.ensures.follows in
-    chain-told (recipe_of t) (view s) l x c.follow-x.ensures.fits.0 c.follow-x.ensures.fits.1 c.if-chain-ne66.false is c.from.result c.from.ensures _ c.put_numbers.ensures
+    let counted : length (take x.count x.numbers) ≡ x.count = length-take-le x.count x.numbers (omega (arith, c.follow-x.ensures.fits.0, c.follow-x.ensures.fits.1)) in
+    chain-told (recipe_of t) (view s) l x c.if-chain-ne66.false is x.count (sym counted) c.from.result c.from.ensures _ c.put_numbers.ensures
